@@ -1,13 +1,20 @@
-// A library with one function.
+//! Typed rows: keys, texts, tables, writes, transactions and the state that they leave.
 #![tactic(auto)]
 
-ghost use Rattle.std.specs.Prelude.{◌≡◌};
-ghost use Rattle.c5_rows.specs.Echo.{echo_of};
+mod answer;
+mod cells;
+mod fitting;
+mod memory;
+mod names;
+mod rows;
+mod short;
+mod tables;
+mod writes;
 
-// The `ensures` clause is the contract: what `echo` returns is `echo_of` of its argument, a definition
-// in `specs/Echo.antt`, which a caller's clause can cite too.
-pub fn echo(x: usize) -> usize
-    ensures { result ≡ echo_of x }
-{
-    x
-}
+pub use answer::{Answer, AnswerLine, Replies, Reply};
+pub use cells::{Cell, CellType, Row};
+pub use memory::NoMemory;
+pub use names::{Bad, Key, TableName, TextCell};
+pub use rows::{Applied, RowEntry, Rows};
+pub use tables::{BadSchema, Columns, Schema, TableDef};
+pub use writes::{Change, RowName, Txn, Write, Writes};

@@ -1,0 +1,64 @@
+-- The finite map that the entries of a tree make.
+use Rattle.std.proofs.Common.{◌≡◌, ◌+◌, ℕ, Bool, true, false, cond, List, [], ◌∷◌, ◌++◌, Option, Some, None, length, map, take, get_or, ◌<◌, refl, ap, sym, ◌∙◌, arith, Less}
+use Rattle.std.specs.FinMap.{FinMap, empty, get, insert, remove, len, entries, from_entries, find, put, same_map, get-empty, get-insert, get-remove, get-from_entries, len-entries, entries-insert, len-empty}
+use Rattle.std.specs.Ordering.{eq_by_cmp}
+use Rattle.std.specs.BTreeMap.{is_at}
+use Rattle.std.specs.Map.{lookup}
+use Rattle.std.specs.List.{AllByRecursion}
+use Rattle.std.specs.List.Sorted.{IsStrictlySortedBy}
+use Rattle.std.specs.Cmp.{eq_by_cmp_equiv}
+use Rattle.std.proofs.lemmas.List.{nil_from_length, take_more}
+use Rattle.c5_rows.specs.declared.cells.Cell.{Cell}
+use Rattle.c5_rows.specs.declared.writes.RowName.{RowName}
+use Rattle.c5_rows.specs.declared.writes.Write.{Write}
+use Rattle.c5_rows.specs.State.{State, after_change, after_writes}
+use Rattle.c5_rows.specs.Order.{row_name_cmp, row_name_cmp_total, row_name_cmp_exact}
+
+-- what a tree has at a name
+abbrev pub row_at : List (RowName × List Cell) → RowName → Option (List Cell)
+row_at es name = lookup (is_at (row_name_cmp name)) es
+
+find_row : (es : List (RowName × List Cell)) (name : RowName) → find row_name_cmp name es ≡ row_at es name
+find_row [] name = refl
+find_row (e ∷ es) name = ap (cond (is_at (row_name_cmp name) e.0) (Some e.1)) (find_row es name)
+
+pub get_row : (es : List (RowName × List Cell)) (name : RowName) → get (from_entries {R = row_name_cmp} es) name ≡ row_at es name
+get_row es name = get-from_entries row_name_cmp_total es name ∙ find_row es name
+
+-- entries that differ at one name make maps that differ there
+pub one_set : (es fs : List (RowName × List Cell)) (name : RowName) (row : List Cell) → ((q : RowName) → row_at fs q ≡ cond (is_at (row_name_cmp name) q) (Some row) (row_at es q)) → from_entries {R = row_name_cmp} fs ≡ insert (from_entries es) name row
+one_set es fs name row h = same_map row_name_cmp_total row_name_cmp_exact _ _ (λ q.
+    get_row fs q ∙ h q ∙ ap (λ b. cond b (Some row) (row_at es q)) ((eq_by_cmp_equiv row_name_cmp_total).symm name q)
+    ∙ sym (get-insert row_name_cmp_total (from_entries es) name row q ∙ ap (cond (eq_by_cmp row_name_cmp q name) (Some row)) (get_row es q)))
+
+pub one_gone : (es fs : List (RowName × List Cell)) (name : RowName) → ((q : RowName) → row_at fs q ≡ cond (is_at (row_name_cmp name) q) None (row_at es q)) → from_entries {R = row_name_cmp} fs ≡ remove (from_entries es) name
+one_gone es fs name h = same_map row_name_cmp_total row_name_cmp_exact _ _ (λ q.
+    get_row fs q ∙ h q ∙ ap (λ b. cond b None (row_at es q)) ((eq_by_cmp_equiv row_name_cmp_total).symm name q)
+    ∙ sym (get-remove row_name_cmp_total (from_entries es) name q ∙ ap (cond (eq_by_cmp row_name_cmp q name) None) (get_row es q)))
+
+-- ---- the entries in order
+
+put_first : (name : RowName) (row : List Cell) (es : List (RowName × List Cell)) → AllByRecursion (λ q. row_name_cmp name q ≡ Less) (map (λ e. e.0) es) → put row_name_cmp name row es ≡ (name, row) ∷ es
+put_first name row [] below = refl
+put_first name row (e ∷ es) below = rw below.0 refl
+
+-- the map gives back entries that ascend
+pub entries_back : (es : List (RowName × List Cell)) → IsStrictlySortedBy row_name_cmp (map (λ e. e.0) es) → entries (from_entries {R = row_name_cmp} es) ≡ es
+unfolding IsStrictlySortedBy
+entries_back [] up = nil_from_length (entries (empty {R = row_name_cmp})) (sym (len-entries (empty {R = row_name_cmp})) ∙ len-empty row_name_cmp (List Cell))
+entries_back (e ∷ es) up =
+    entries-insert row_name_cmp_total (from_entries es) e.0 e.1
+    ∙ ap (put row_name_cmp e.0 e.1) (entries_back es up.1)
+    ∙ put_first e.0 e.1 es up.0
+
+pub len_back : (es : List (RowName × List Cell)) → IsStrictlySortedBy row_name_cmp (map (λ e. e.0) es) → len (from_entries {R = row_name_cmp} es) ≡ length es
+len_back es up = len-entries (from_entries es) ∙ ap length (entries_back es up)
+
+-- ---- one more write
+
+after_writes-push : (writes : List Write) (write : Write) (state : State) → after_writes (writes ++ write ∷ []) state ≡ after_change write.name write.change (after_writes writes state)
+after_writes-push [] write state = refl
+after_writes-push (first ∷ writes) write state = after_writes-push writes write (after_change first.name first.change state)
+
+pub after_writes-more : (writes : List Write) (i : ℕ) (d : Write) (state : State) → i < length writes → after_writes (take (i + 1) writes) state ≡ after_change (get_or writes i d).name (get_or writes i d).change (after_writes (take i writes) state)
+after_writes-more writes i d state lt = ap (λ ws. after_writes ws state) (take_more writes i d lt) ∙ after_writes-push (take i writes) (get_or writes i d) state
