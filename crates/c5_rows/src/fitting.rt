@@ -8,6 +8,12 @@ use crate::cells::{Cell, CellType};
 use crate::tables::Schema;
 use crate::writes::{Change, Write};
 
+fn has_type(cell: &Cell, column: CellType) -> bool
+    ensures { IsTrue result ↔ (type_of cell.now ≡ column) }
+{
+    cell.cell_type() == column
+}
+
 // Whether the cells have the types, one for one.
 fn have_types(cells: &[Cell], types: &[CellType]) -> bool
     ensures { IsTrue result ↔ (map type_of cells.now ≡ types.now) }
@@ -16,7 +22,7 @@ fn have_types(cells: &[Cell], types: &[CellType]) -> bool
         return false;
     }
     for (column, cell) in cells.iter().enumerate() {
-        if cell.cell_type() != types[column] {
+        if !has_type(cell, types[column]) {
             return false;
         }
     }
