@@ -1,0 +1,10 @@
+pub use Rattle.c5_rows.specs.Bytes
+pub use Rattle.c5_rows.specs.Cells
+pub use Rattle.c5_rows.specs.Tables
+pub use Rattle.c5_rows.specs.Writes
+pub use Rattle.c5_rows.specs.Fitting
+pub use Rattle.c5_rows.specs.State
+pub mod Spelling
+pub mod Lawful
+pub mod Texts
+pub mod Worked

@@ -1,0 +1,35 @@
+-- The texts of rows.
+use Rattle.std.specs.Prelude.{ℕ, List, [], ◌∷◌, ◌++◌, length, codes, decimal, slice_get, Option, Some, None}
+use Rattle.std.specs.Fmt.{signed_decimal}
+use Rattle.std.specs.List.{flat_map}
+use Rattle.c5_rows.specs.declared.cells.Cell.{Cell}
+use Rattle.c5_rows.specs.declared.cells.Cell.TheVariants.{Int, Txt}
+use Rattle.c5_rows.specs.declared.tables.TableDef.{TableDef}
+use Rattle.c5_rows.specs.declared.rows.RowEntry.{RowEntry}
+use Rattle.c5_rows.specs.State.{State, rows_of}
+
+-- a number with `-` where it is negative; or a text between two quotes
+abbrev pub cell_text : Cell → List ℕ
+cell_text (Int n) = signed_decimal n
+cell_text (Txt bytes) = 34 ∷ bytes ++ 34 ∷ []
+
+-- the name of a table; no bytes where there is no such table
+abbrev pub name_in : Option TableDef → List ℕ
+name_in (Some table) = table.name
+name_in None = []
+
+-- the table's name, the key and the cells, with a blank before each but the first, and a line end
+abbrev pub row_line : List TableDef → RowEntry → List ℕ
+row_line tables entry = name_in (slice_get tables entry.name.table) ++ 32 ∷ entry.name.key ++ flat_map (λ cell. 32 ∷ cell_text cell) entry.row ++ 10 ∷ []
+
+-- `rows` and how many there are
+abbrev pub count_line : ℕ → List ℕ
+count_line n = codes "rows " ++ decimal n ++ 10 ∷ []
+
+-- a line for each row, and the line of their number
+abbrev pub entries_text : List TableDef → List RowEntry → List ℕ
+entries_text tables entries = flat_map (row_line tables) entries ++ count_line (length entries)
+
+-- all rows of a state, by ascending name, and their number
+abbrev pub rows_text : List TableDef → State → List ℕ
+rows_text tables state = entries_text tables (rows_of state)

@@ -1,0 +1,23 @@
+//! What a log is, what state it leaves and how rows are printed: the definitions that the contracts
+//! of the other crates cite. Two laws check them against a log that was worked by hand.
+#![tactic(auto)]
+
+ghost use Rattle.std.specs.Prelude.{◌≡◌};
+ghost use Rattle.std.specs.FinMap.{empty};
+ghost use Rattle.c5_rows.specs.Order.{row_name_cmp};
+ghost use Rattle.c5_rows.specs.State.{state_after};
+ghost use Rattle.c5_definitions.specs.Lawful.{Spells};
+ghost use Rattle.c5_definitions.specs.Texts.{rows_text};
+ghost use Rattle.c5_definitions.specs.Worked.{worked_tables, worked_txns, worked_bytes, worked_text};
+
+/// The bytes of a log that was worked by hand are its spelling.
+pub fn worked_log()
+    ensures { Spells worked_bytes worked_tables worked_txns }
+{
+}
+
+/// The rows after that log have the text that was worked by hand.
+pub fn worked_rows()
+    ensures { rows_text worked_tables (state_after (empty {R = row_name_cmp}) worked_txns 1) ≡ worked_text }
+{
+}
