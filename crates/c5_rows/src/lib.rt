@@ -18,3 +18,6 @@ pub use names::{Bad, Key, TableName, TextCell};
 pub use rows::{Applied, RowEntry, Rows};
 pub use tables::{BadSchema, Columns, Schema, TableDef};
 pub use writes::{Change, RowName, Txn, Write, Writes};
+
+#[cfg(test)]
+mod tests;
