@@ -1,5 +1,5 @@
 //! What a log is, what state it leaves and how rows are printed: the definitions that the contracts
-//! of the other crates cite. Two laws check them against a log that was worked by hand.
+//! of the other crates cite. Laws check them against logs that were worked by hand.
 #![tactic(auto)]
 
 ghost use Rattle.std.specs.Prelude.{◌≡◌};
@@ -8,7 +8,7 @@ ghost use Rattle.c5_rows.specs.Order.{row_name_cmp};
 ghost use Rattle.c5_rows.specs.State.{state_after};
 ghost use Rattle.c5_definitions.specs.Lawful.{Spells};
 ghost use Rattle.c5_definitions.specs.Texts.{rows_text};
-ghost use Rattle.c5_definitions.specs.Worked.{worked_tables, worked_txns, worked_bytes, worked_text};
+ghost use Rattle.c5_definitions.specs.Worked.{worked_tables, worked_txns, worked_bytes, worked_text, text_tables, text_txns, text_bytes, text_text};
 
 /// The bytes of a log that was worked by hand are its spelling.
 pub fn worked_log()
@@ -19,5 +19,17 @@ pub fn worked_log()
 /// The rows after that log have the text that was worked by hand.
 pub fn worked_rows()
     ensures { rows_text worked_tables (state_after (empty {R = row_name_cmp}) worked_txns 1) ≡ worked_text }
+{
+}
+
+/// The same of a log with a text cell and a number below 0.
+pub fn worked_text_log()
+    ensures { Spells text_bytes text_tables text_txns }
+{
+}
+
+/// The rows after that log have the text that was worked by hand.
+pub fn worked_text_rows()
+    ensures { rows_text text_tables (state_after (empty {R = row_name_cmp}) text_txns 1) ≡ text_text }
 {
 }
