@@ -17,10 +17,10 @@ abbrev pub magic : List ℕ
 magic = 67 ∷ 53 ∷ 76 ∷ 49 ∷ []
 
 -- a number below 2^32 or 2^64, the highest byte first
-abbrev pub spelled_u32 : ℕ → List ℕ
+unfoldable pub spelled_u32 : ℕ → List ℕ
 spelled_u32 n = to_be_bytes w32 n
 
-abbrev pub spelled_u64 : ℕ → List ℕ
+unfoldable pub spelled_u64 : ℕ → List ℕ
 spelled_u64 n = to_be_bytes w64 n
 
 -- the byte of a column's type
@@ -33,39 +33,39 @@ abbrev pub spelled_table : TableDef → List ℕ
 spelled_table table = length table.name ∷ table.name ++ length table.columns ∷ map spelled_type table.columns
 
 -- the magic, the number of tables, the tables
-abbrev pub spelled_header : List TableDef → List ℕ
+unfoldable pub spelled_header : List TableDef → List ℕ
 spelled_header tables = magic ++ length tables ∷ flat_map spelled_table tables
 
 -- 8 bytes of two's complement; or the length of a text and the text
-abbrev pub spelled_cell : Cell → List ℕ
+unfoldable pub spelled_cell : Cell → List ℕ
 spelled_cell (Int n) = spelled_u64 (cast_unsigned w64 n)
 spelled_cell (Txt bytes) = length bytes ∷ bytes
 
 -- 0 and the cells; or 1
-abbrev pub spelled_change : Change → List ℕ
+unfoldable pub spelled_change : Change → List ℕ
 spelled_change (Put row) = 0 ∷ flat_map spelled_cell row
 spelled_change Gone = 1 ∷ []
 
 -- `W`, the table, the length of the key, the key, the change
-abbrev pub write_payload : Write → List ℕ
+unfoldable pub write_payload : Write → List ℕ
 write_payload write = 87 ∷ write.name.table ∷ length write.name.key ∷ write.name.key ++ spelled_change write.change
 
 -- `C`, the script number, the stamp, the number of writes
-abbrev pub mark_payload : Txn → List ℕ
+unfoldable pub mark_payload : Txn → List ℕ
 mark_payload txn = 67 ∷ spelled_u32 txn.script ++ spelled_u64 txn.stamp ++ spelled_u32 (length txn.writes)
 
 -- `E`, the number of transactions
-abbrev pub end_payload : ℕ → List ℕ
+unfoldable pub end_payload : ℕ → List ℕ
 end_payload count = 69 ∷ spelled_u32 count
 
 -- the length of a payload, and the payload
-abbrev pub spelled_frame : List ℕ → List ℕ
+unfoldable pub spelled_frame : List ℕ → List ℕ
 spelled_frame payload = spelled_u32 (length payload) ++ payload
 
 -- a frame for each write, and one for the commit mark
-abbrev pub spelled_txn : Txn → List ℕ
+unfoldable pub spelled_txn : Txn → List ℕ
 spelled_txn txn = flat_map (λ write. spelled_frame (write_payload write)) txn.writes ++ spelled_frame (mark_payload txn)
 
 -- the header, the transactions, and a frame for the end mark
-abbrev pub spelled_log : List TableDef → List Txn → List ℕ
+unfoldable pub spelled_log : List TableDef → List Txn → List ℕ
 spelled_log tables txns = spelled_header tables ++ flat_map spelled_txn txns ++ spelled_frame (end_payload (length txns))

@@ -1,0 +1,10 @@
+use Rattle.std.proofs.Common.{◌≡◌, ◌∷◌, ◌++◌, drop}
+use Rattle.std.specs.List.{flat_map}
+use Rattle.c5_definitions.specs.Texts.{cell_text}
+use Rattle.c5_text.proofs.cells.push_cells.Given as goal
+
+-- what is written and the cells that are left make the whole
+abbrev pub invariant-loop-cell : goal.invariant-loop-cell
+invariant-loop-cell l =
+    l.out.items ++ flat_map (λ cell. 32 ∷ cell_text cell) (drop l.cell-index l.cells)
+    ≡ l.initial.out.items ++ flat_map (λ cell. 32 ∷ cell_text cell) l.cells
