@@ -13,23 +13,19 @@ ghost use Rattle.c5_definitions.specs.Worked.{worked_tables, worked_txns, worked
 /// The bytes of a log that was worked by hand are its spelling.
 pub fn worked_log()
     ensures { Spells worked_bytes worked_tables worked_txns }
-{
-}
+{}
 
 /// The rows after that log have the text that was worked by hand.
 pub fn worked_rows()
     ensures { rows_text worked_tables (state_after (empty {R = row_name_cmp}) worked_txns 1) ≡ worked_text }
-{
-}
+{}
 
 /// The same of a log with a text cell and a number below 0.
 pub fn worked_text_log()
     ensures { Spells text_bytes text_tables text_txns }
-{
-}
+{}
 
 /// The rows after that log have the text that was worked by hand.
 pub fn worked_text_rows()
     ensures { rows_text text_tables (state_after (empty {R = row_name_cmp}) text_txns 1) ≡ text_text }
-{
-}
+{}

@@ -1,6 +1,6 @@
 -- The finite map that the entries of a tree make.
-use Rattle.std.proofs.Common.{◌≡◌, ◌+◌, ℕ, Bool, true, false, cond, List, [], ◌∷◌, ◌++◌, Option, Some, None, length, map, take, get_or, ◌<◌, refl, ap, sym, ◌∙◌, arith, Less}
-use Rattle.std.specs.FinMap.{FinMap, empty, get, insert, remove, len, entries, from_entries, find, put, same_map, get-empty, get-insert, get-remove, get-from_entries, len-entries, entries-insert, len-empty}
+use Rattle.std.proofs.Common.{◌≡◌, ◌+◌, ℕ, cond, List, [], ◌∷◌, ◌++◌, Option, Some, None, length, map, take, get_or, ◌<◌, refl, ap, sym, ◌∙◌, Less}
+use Rattle.std.specs.FinMap.{empty, get, insert, remove, len, entries, from_entries, find, put, same_map, get-insert, get-remove, get-from_entries, len-entries, entries-insert, len-empty}
 use Rattle.std.specs.Ordering.{eq_by_cmp}
 use Rattle.std.specs.BTreeMap.{is_at}
 use Rattle.std.specs.Map.{lookup}

@@ -1,6 +1,6 @@
 -- A short list held in an array: its items first, and then one blank as often as fits.
-use Rattle.std.specs.Prelude.{◌≡◌, ◌<◌, ◌≤◌, ◌-◌, ◌+◌, ◌++◌, ◌∷◌, [], ℕ, List, length, take, drop, replicate, refl}
-use Rattle.std.proofs.Common.{arith, sym, subst, ◌∙◌, ap, set}
+use Rattle.std.specs.Prelude.{◌≡◌, ◌<◌, ◌≤◌, ◌-◌, ◌+◌, ◌++◌, ◌∷◌, [], ℕ, List, length, take, drop, replicate}
+use Rattle.std.proofs.Common.{arith, sym, ◌∙◌, ap, set}
 use Rattle.std.proofs.lemmas.List.{length-take, length-append, length-replicate, length-set, drop-replicate, drop-drop, drop-set-lt, drop_at, take_at, take-append-drop, take_more_set}
 use Rattle.std.proofs.Math.Seq.{take-set-lt}
 
@@ -58,10 +58,10 @@ IsPadded-push blank size len x cells p lt =
       fits = omega arith;
       full = length-set cells len x ∙ p.full;
       padding = drop-set-lt (len + 1) cells len x (omega arith)
-        ∙ sym (drop-drop 1 len cells)
-        ∙ ap (drop 1) p.padding
-        ∙ drop-replicate 1 (size - len) blank
-        ∙ ap (λ (n : ℕ). replicate n blank) less;
+          ∙ sym (drop-drop 1 len cells)
+          ∙ ap (drop 1) p.padding
+          ∙ drop-replicate 1 (size - len) blank
+          ∙ ap (λ (n : ℕ). replicate n blank) less;
     }
 
 pub take-set-within : {X : Type 0} (len i : ℕ) (x : X) (cells : List X) → i < len → take len (set cells i x) ≡ set (take len cells) i x

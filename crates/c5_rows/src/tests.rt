@@ -79,7 +79,10 @@ fn rows_and_columns_have_one_to_eight(rt: HostRuntime) -> Result<(), Fail> {
     let length = row.cells().len();
     if 1 < length {
         let changed = row.with(1, text);
-        assert_eq!(rt; changed.cells(), [Cell::Int(7), text, Cell::Int(7)].as_slice());
+        assert_eq!(rt;
+            changed.cells(),
+            [Cell::Int(7), text, Cell::Int(7)].as_slice()
+        );
     }
     assert_eq!(rt; row.cells(), &cells[..3]);
     assert_eq!(rt; text.cell_type(), CellType::Text);
@@ -99,7 +102,10 @@ fn a_schema_has_sixteen_tables_of_different_names(rt: HostRuntime) -> Result<(),
     ] {
         assert_eq!(rt; schema.push(int_table(name)?), Ok(()));
     }
-    assert_eq!(rt; schema.push(int_table(b"c")?), Err(BadSchema::Repeated { table: 2 }));
+    assert_eq!(rt;
+        schema.push(int_table(b"c")?),
+        Err(BadSchema::Repeated { table: 2 })
+    );
     assert_eq!(rt; schema.push(int_table(b"p")?), Ok(()));
     assert_eq!(rt; schema.push(int_table(b"c")?), Err(BadSchema::Full));
     assert_eq!(rt; schema.tables().len(), 16);
@@ -143,7 +149,10 @@ fn writes_stand_in_order_one_a_row(rt: HostRuntime) -> Result<(), Fail> {
     for (write, bytes) in writes.as_slice().iter().zip([b"a", b"b", b"c", b"d"]) {
         assert_eq!(rt; write.name, name_of(0, bytes)?);
     }
-    assert_eq!(rt; writes.find(&name_of(0, b"b")?), Some(&Change::Put(int_row(5)?)));
+    assert_eq!(rt;
+        writes.find(&name_of(0, b"b")?),
+        Some(&Change::Put(int_row(5)?))
+    );
     assert_eq!(rt; writes.find(&name_of(0, b"c")?), Some(&Change::Gone));
     assert_eq!(rt; writes.find(&name_of(1, b"c")?), None);
     Ok(())

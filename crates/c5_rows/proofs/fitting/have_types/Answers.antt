@@ -1,4 +1,4 @@
-use Rattle.std.proofs.Common.{◌≡◌, ◌<◌, ◌∙◌, refl, ap, sym, length, get_or, map, arith, rules}
+use Rattle.std.proofs.Common.{◌≡◌, ◌<◌, ◌∙◌, refl, ap, sym, length, get_or, map, arith}
 use Rattle.std.proofs.lemmas.List.{take_more_same, get_or-map, get_or_default, length-map}
 use Rattle.c5_rows.specs.Cells.{type_of}
 use Rattle.c5_rows.proofs.fitting.have_types.Goals as goal

@@ -1,6 +1,4 @@
-use Rattle.std.proofs.Common.{◌≡◌, ◌∙◌, ap, sym, Some}
-use Rattle.std.proofs.lemmas.List.{get_or_read}
-use Rattle.c5_rows.specs.Writes.{change_of}
+use Rattle.std.proofs.Common.{sym}
 use Rattle.c5_rows.proofs.WriteLemmas.{change_of-found, change_of-gap}
 use Rattle.c5_rows.proofs.writes.look_up.Goals as goal
 

@@ -1,5 +1,5 @@
-use Rattle.std.proofs.Common.{◌≡◌, ◌∙◌, subst, set}
-use Rattle.c5_rows.specs.Writes.{put_write, IsAscending}
+use Rattle.std.proofs.Common.{◌≡◌, ◌∙◌, set}
+use Rattle.c5_rows.specs.Writes.{put_write}
 use Rattle.c5_rows.proofs.WriteLemmas.{put_write-found, put_write-gap, IsAscending-put}
 use Rattle.c5_rows.proofs.writes.put.Goals as goal
 

@@ -1,4 +1,4 @@
-use Rattle.std.proofs.Common.{length, take, ◌<◌, ap, ◌∙◌, arith, set}
+use Rattle.std.proofs.Common.{length, ◌<◌, ap, ◌∙◌, arith, set}
 use Rattle.c5_rows.specs.Cells.{blank_cell}
 use Rattle.c5_rows.specs.Padded.{IsPadded-set, length-of_padded, take-set-within}
 use Rattle.c5_rows.proofs.cells.Row.with.Goals as goal

@@ -1,4 +1,4 @@
-use Rattle.std.proofs.Common.{◌≡◌, drop, take}
+use Rattle.std.proofs.Common.{◌≡◌, take}
 use Rattle.c5_rows.specs.State.{after_writes}
 use Rattle.c5_rows.proofs.rows.Rows.apply.Given as goal
 
