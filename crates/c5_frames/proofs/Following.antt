@@ -1,15 +1,15 @@
 -- What has been read of a log so far, and what each frame adds to it.
-use Rattle.std.proofs.Common.{◌≡◌, ◌∙◌, ℕ, suc, ◌^◌, ◌<◌, Bool, true, ◌&&◌, cond, eqb, ltb, List, [], ◌∷◌, ◌++◌, length, Option, Some, None, Result, Ok, Err, refl, sym, ap, subst, append_assoc, arith}
+use Rattle.std.proofs.Common.{◌≡◌, ◌∙◌, ℕ, ◌^◌, ◌<◌, ◌&&◌, cond, eqb, ltb, List, [], ◌∷◌, ◌++◌, length, Option, Some, None, Ok, Err, refl, sym, ap, subst, append_assoc, arith}
 use Rattle.std.specs.List.{flat_map, AllByRecursion}
 use Rattle.std.proofs.lemmas.Bool.{eqb-true, ltb-true}
 use Rattle.std.proofs.lemmas.List.{append-nil, nil_from_length, flat_map_more, length-append}
 use Rattle.c5_rows.specs.Tables.{IsSchema}
-use Rattle.c5_rows.specs.Writes.{IsAscending, put_write}
+use Rattle.c5_rows.specs.Writes.{IsAscending}
 use Rattle.c5_rows.specs.declared.tables.TableDef.{TableDef}
 use Rattle.c5_rows.specs.declared.writes.Write.{Write}
 use Rattle.c5_rows.specs.declared.writes.Txn.{Txn}
 use Rattle.c5_rows.proofs.WriteLemmas.{IsAscending-put}
-use Rattle.c5_definitions.specs.Lawful.{IsLawfulTable, IsLawfulWrite, IsLawfulTxn, StampsRise, Spells}
+use Rattle.c5_definitions.specs.Lawful.{IsLawfulWrite, IsLawfulTxn, StampsRise, Spells}
 use Rattle.c5_definitions.specs.Spelling.{spelled_u32, spelled_u64, write_payload, mark_payload, end_payload, spelled_frame, spelled_txn, spelled_header, spelled_log}
 use Rattle.c5_frames.specs.declared.kinds.LogKind.{LogKind}
 use Rattle.c5_frames.specs.declared.kinds.LogKind.TheVariants as kinds

@@ -1,5 +1,5 @@
 -- A header that is read is spelled so, and its tables are lawful.
-use Rattle.std.proofs.Common.{◌≡◌, ◌∙◌, ℕ, zero, suc, ◌+◌, ◌<◌, ◌≤◌, Bool, true, false, ◌||◌, cond, eqb, ltb, List, [], ◌∷◌, ◌++◌, length, take, drop, map, Option, Result, Ok, Err, refl, sym, ap, subst, append_assoc, arith, Decides}
+use Rattle.std.proofs.Common.{◌≡◌, ◌∙◌, ℕ, zero, suc, ◌+◌, ◌≤◌, Bool, true, false, ◌||◌, cond, eqb, ltb, List, [], ◌∷◌, ◌++◌, length, take, drop, map, Ok, Err, refl, sym, ap, subst, append_assoc, arith}
 use Rattle.std.specs.Prelude.{is_some}
 use Rattle.std.specs.Str.{bytes_eq}
 use Rattle.std.specs.List.{flat_map, AllByRecursion}
@@ -13,12 +13,11 @@ use Rattle.c5_rows.specs.declared.cells.CellType.TheVariants as types
 use Rattle.c5_rows.specs.declared.tables.TableDef.{TableDef}
 use Rattle.c5_definitions.specs.Lawful.{IsLawfulTable}
 use Rattle.c5_definitions.specs.Spelling.{magic, spelled_type, spelled_table, spelled_header}
-use Rattle.c5_frames.specs.declared.kinds.LogKind.{LogKind}
 use Rattle.c5_frames.specs.declared.kinds.LogKind.TheVariants as kinds
 use Rattle.c5_frames.specs.Reading.{◌>>=◌, or_fault}
 use Rattle.c5_frames.specs.Header.{count_at, bytes_at, name_at, type_at, types_of, columns_at, table_at, tables_at, magic_at, header_at}
 use Rattle.c5_frames.proofs.Loops.{bind_ok}
-use Rattle.c5_frames.proofs.Fields.{IsBytes, IsBytes-drop, IsBytes-take, IsBytes-rest, Takes, Takes-then, Takes-cons, passed, held, ok_is, or_fault-ok, checked-ok}
+use Rattle.c5_frames.proofs.Fields.{IsBytes, IsBytes-drop, IsBytes-rest, Takes, Takes-then, passed, held, ok_is, or_fault-ok, checked-ok}
 
 neither : (a b : Bool) → (a || b) ≡ false → (a ≡ false) × (b ≡ false)
 neither true b e = absurd cc

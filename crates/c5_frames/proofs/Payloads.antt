@@ -1,7 +1,6 @@
 -- A payload that is read is spelled so, and what it holds is lawful.
-use Rattle.std.proofs.Common.{◌≡◌, ◌∙◌, ℕ, zero, suc, ◌+◌, ◌^◌, ◌<◌, ◌≤◌, Bool, true, false, ◌||◌, cond, eqb, ltb, List, [], ◌∷◌, ◌++◌, length, take, drop, map, Option, Some, None, Result, Ok, Err, refl, sym, ap, subst, append_assoc, arith, ◌⊎◌, inl, inr}
+use Rattle.std.proofs.Common.{◌≡◌, ◌∙◌, ℕ, zero, suc, ◌^◌, ◌<◌, ◌≤◌, Bool, true, false, ◌||◌, cond, eqb, ltb, List, [], ◌∷◌, ◌++◌, length, take, drop, map, Option, Some, None, Result, Ok, Err, refl, sym, ap, subst, append_assoc, arith, ◌⊎◌, inl, inr}
 use Rattle.std.specs.Prelude.{slice_get, MatchOption}
-use Rattle.std.specs.Int.{w64}
 use Rattle.std.specs.List.{flat_map, AllByRecursion}
 use Rattle.std.proofs.lemmas.Bool.{eqb-true, ltb-false}
 use Rattle.std.proofs.lemmas.List.{append-nil, nil_from_length, take-append-drop, length-take, length-drop, drop-drop}
@@ -27,7 +26,7 @@ use Rattle.c5_frames.specs.Numbers.{number_32, number_64, signed_64}
 use Rattle.c5_frames.specs.Reading.{◌>>=◌, or_fault}
 use Rattle.c5_frames.specs.Payload.{payload_at, key_at, text_at, int_at, cell_at, cells_at, row_at, change_at, table_numbered, write_at, mark_at, end_at, frame_at}
 use Rattle.c5_frames.proofs.Loops.{bind_ok}
-use Rattle.c5_frames.proofs.Fields.{IsBytes, IsBytes-drop, IsBytes-take, IsBytes-rest, Takes, Takes-then, Takes-cons, passed, held, ok_is, or_fault-ok, checked-ok, u32-takes, u32-below, u64-takes, u64-below, i64-takes, i64-fits}
+use Rattle.c5_frames.proofs.Fields.{IsBytes, IsBytes-drop, IsBytes-take, IsBytes-rest, Takes, Takes-then, passed, held, ok_is, or_fault-ok, checked-ok, u32-takes, u32-below, u64-takes, u64-below, i64-takes, i64-fits}
 
 -- ---- the length and the bytes of a key or a text
 

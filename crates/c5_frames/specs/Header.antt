@@ -1,5 +1,5 @@
 -- The header of a log, item by item.
-use Rattle.std.specs.Prelude.{ℕ, zero, suc, ◌+◌, ◌||◌, ◌==◌, nat_lt, is_some, List, [], ◌∷◌, ◌++◌, length, take, drop, Result, Ok, Err, if◌then◌else◌}
+use Rattle.std.specs.Prelude.{ℕ, zero, suc, ◌||◌, ◌==◌, nat_lt, is_some, List, [], ◌∷◌, ◌++◌, length, take, drop, Result, Ok, Err, if◌then◌else◌}
 use Rattle.std.specs.Str.{bytes_eq}
 use Rattle.c5_rows.specs.Bytes.{checked_bytes, is_name_byte}
 use Rattle.c5_rows.specs.Tables.{table_of}

@@ -1,5 +1,5 @@
 -- Frames and their payloads.
-use Rattle.std.specs.Prelude.{ℕ, zero, suc, ◌||◌, ◌==◌, nat_lt, List, [], ◌∷◌, length, take, drop, slice_get, Option, Some, None, Result, Ok, Err, if◌then◌else◌}
+use Rattle.std.specs.Prelude.{ℕ, zero, suc, ◌||◌, ◌==◌, nat_lt, List, [], ◌∷◌, length, take, drop, slice_get, Some, None, Result, Ok, Err, if◌then◌else◌}
 use Rattle.c5_rows.specs.Bytes.{checked_bytes, is_key_byte, is_text_byte}
 use Rattle.c5_rows.specs.declared.cells.CellType.{CellType}
 use Rattle.c5_rows.specs.declared.cells.CellType.TheVariants as types

@@ -26,5 +26,5 @@ pub use fault::FirstFault;
 pub use first::{FirstLog, read_first};
 pub use kinds::LogKind;
 
-//#[cfg(test)]
-//mod tests;
+#[cfg(test)]
+mod tests;

@@ -1,4 +1,4 @@
-use Rattle.std.proofs.Common.{◌≡◌, ◌-◌, ◌≤◌, [], length}
+use Rattle.std.proofs.Common.{◌≡◌, ◌-◌, [], length}
 use Rattle.c5_frames.specs.Header.{tables_at}
 use Rattle.c5_frames.proofs.header.tables_in.Given as goal
 

@@ -1,4 +1,4 @@
-use Rattle.std.proofs.Common.{◌≡◌, ◌≤◌, ◌<◌, ◌∙◌, ℕ, sym, ap, List, length, take, Ok, arith}
+use Rattle.std.proofs.Common.{◌≡◌, ◌<◌, ◌∙◌, ℕ, sym, ap, List, length, take, Ok, arith}
 use Rattle.std.proofs.lemmas.List.{length-set}
 use Rattle.c5_rows.specs.declared.cells.Cell.{Cell}
 use Rattle.c5_frames.specs.Payload.{cells_at}
