@@ -29,6 +29,10 @@ pub record ReadsWhole (old new : Option (List ℕ)) (input : List ℕ) : Type 0 
   pub ended : IsAtEnd new
   pub within : length input ≤ input_limit
 
+-- the input is the spelling of no lawful tables and transactions
+abbrev pub IsNoLog : List ℕ → Type 0
+IsNoLog input = (tables : List TableDef) (txns : List Txn) → Spells input tables txns → ⊥
+
 -- the input is a log, and the text is that of all rows after the whole of it
 pub record IsTextOf (input text : List ℕ) : Type 0 where
   pub tables : List TableDef
@@ -87,6 +91,6 @@ SinkFaults status old new = old ≤ new
 abbrev pub Refuses : Status → ℕ → ℕ → Option (List ℕ) → Option (List ℕ) → Type 0
 Refuses statuses.ReadFault faults_old faults_new left_old left_new = Rose faults_old faults_new
 Refuses statuses.TooLong faults_old faults_new left_old left_new = (faults_new ≡ faults_old) × IfSome left_old (λ left. input_limit < length left)
-Refuses statuses.NotYet faults_old faults_new left_old left_new = (faults_new ≡ faults_old) × (input : List ℕ) × ReadsWhole left_old left_new input
+Refuses statuses.NotYet faults_old faults_new left_old left_new = (faults_new ≡ faults_old) × (input : List ℕ) × ReadsWhole left_old left_new input × IsNoLog input
 Refuses statuses.NoMemory faults_old faults_new left_old left_new = faults_new ≡ faults_old
 Refuses status faults_old faults_new left_old left_new = ⊥

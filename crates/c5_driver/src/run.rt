@@ -1,7 +1,7 @@
 //! The top call.
 
 ghost use Rattle.std.specs.Prelude.{◌≡◌, ◌↔◌, ◌⊎◌, ◌<◌, ℕ, List, length, IsTrue, IfSome, true};
-ghost use Rattle.c5_driver.specs.Outcome.{AreApply, ReadsWhole, PrintsRows, PrintsSomeRows, PrintsLine, IsToldByLine, fault_line, input_limit, SourceFaults, SinkFaults};
+ghost use Rattle.c5_driver.specs.Outcome.{AreApply, ReadsWhole, IsNoLog, PrintsRows, PrintsSomeRows, PrintsLine, IsToldByLine, fault_line, input_limit, SourceFaults, SinkFaults};
 
 use crate::apply::apply;
 use crate::printing::{print, refuse};
@@ -35,9 +35,9 @@ pub fn c5<S: Source, K: Sink>(
     ensures other_words { ¬ AreApply words.now → result ≡ Status.BadWords }
     ensures unread { result ≡ Status.BadWords → source.new ≡ source.old }
 
-    // The statuses that come from the input. All but these two have read it whole, or name a fault.
+    // TooLong: the input is longer than the limit. NotYet: it was read whole, and is no log.
     ensures too_long { result ≡ Status.TooLong → IfSome (S.left source.old) (λ left. input_limit < length left) }
-    ensures not_yet { result ≡ Status.NotYet → (input : List ℕ) × ReadsWhole (S.left source.old) (S.left source.new) input }
+    ensures not_yet { result ≡ Status.NotYet → (input : List ℕ) × ReadsWhole (S.left source.old) (S.left source.new) input × IsNoLog input }
 
     // WriteFault: a front of the text was printed. ReadFault and NoMemory: nothing. Else: a line.
     ensures write_fault { result ≡ Status.WriteFault → PrintsSomeRows (S.left source.old) (S.left source.new) (K.held sink.old) (K.held sink.new) }

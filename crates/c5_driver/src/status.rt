@@ -17,7 +17,7 @@ pub enum Status {
     NoMemory,
     /// There are more bytes than the command reads.
     TooLong,
-    /// The input was read whole and was not taken for a log.
+    /// The input was read whole and is no log.
     NotYet,
 }
 

@@ -4,3 +4,6 @@ pub mod Fields
 pub mod Payloads
 pub mod Headers
 pub mod Following
+pub mod Again
+pub mod AgainHeaders
+pub mod AgainFrames

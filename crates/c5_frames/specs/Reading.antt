@@ -30,3 +30,13 @@ Fails (errors.Fault fault) read = read ≡ Err fault
 abbrev pub StepsTo : {X Y : Type 0} → (X → Y) → Result X ReadError → Result Y LogKind → Type 0
 StepsTo view (Ok x) read = read ≡ Ok (view x)
 StepsTo view (Err error) read = Fails error read
+
+-- this holds if the error is a fault
+abbrev pub AtFault : ReadError → Type 0 → Type 0
+AtFault errors.NoMemory P = Unit {0}
+AtFault (errors.Fault fault) P = P
+
+-- this holds where a fault stopped reading
+abbrev pub OnFault : {X : Type 0} → Result X ReadError → Type 0 → Type 0
+OnFault (Ok x) P = Unit {0}
+OnFault (Err error) P = AtFault error P

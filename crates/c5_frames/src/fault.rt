@@ -10,7 +10,7 @@ use std::alloc::{AllocError, AllocFailed};
 /// Why `read_first` gave no log.
 #[derive(Clone, Copy, Debug, PartialEq, Eq)]
 pub enum FirstFault {
-    /// The bytes are not read.
+    /// The bytes are no log.
     NotYet,
     /// Memory was refused.
     NoMemory,

@@ -1,7 +1,11 @@
 //! Whole logs.
 
-ghost use Rattle.std.specs.Prelude.{◌≡◌, ◌≤◌, IfOk, length};
-ghost use Rattle.c5_definitions.specs.Lawful.{Spells};
+ghost use Rattle.std.specs.Prelude.{◌≡◌, ◌≤◌, IfOk, IsErrOf, List, length};
+ghost use Rattle.std.specs.List.{AllByRecursion};
+ghost use Rattle.c5_definitions.specs.Lawful.{IsLawfulTable, Spells};
+ghost use Rattle.c5_rows.specs.declared.tables.TableDef.{TableDef};
+ghost use Rattle.c5_rows.specs.declared.writes.Txn.{Txn};
+ghost use Rattle.c5_frames.specs.Reading.{OnFault};
 ghost use Rattle.c5_frames.specs.Partial.{SpellsFrames};
 
 use crate::fault::{FirstFault, ReadError};
@@ -46,7 +50,8 @@ impl FirstLog {
 
 // The transactions whose frames these are, up to the end mark, behind which nothing stands.
 fn txns_in(alloc: Global, tables: &[TableDef], frames: &[u8]) -> Result<Vec<Txn>, ReadError>
-    ensures { IfOk result (λ txns. SpellsFrames tables.now frames.now txns.items) }
+    ensures spelled { IfOk result (λ txns. SpellsFrames tables.now frames.now txns.items) }
+    ensures refused { OnFault result ((all : List Txn) → AllByRecursion IsLawfulTable tables.now → SpellsFrames tables.now frames.now all → ⊥) }
 {
     let mut log = PartialLog::new(alloc);
     let mut rest = frames;
@@ -64,7 +69,8 @@ fn txns_in(alloc: Global, tables: &[TableDef], frames: &[u8]) -> Result<Vec<Txn>
 }
 
 fn log_in(alloc: Global, bytes: &[u8]) -> Result<FirstLog, ReadError>
-    ensures { IfOk result (λ log. Spells bytes.now log.tables log.txns) }
+    ensures spelled { IfOk result (λ log. Spells bytes.now log.tables log.txns) }
+    ensures refused { OnFault result ((tables : List TableDef) (txns : List Txn) → Spells bytes.now tables txns → ⊥) }
 {
     let (schema, frames) = match header_in(bytes) {
         Ok(found) => found,
@@ -74,10 +80,12 @@ fn log_in(alloc: Global, bytes: &[u8]) -> Result<FirstLog, ReadError>
     Ok(FirstLog { schema, txns })
 }
 
-/// Reads a whole log: what is read is spelled so, each byte of it. Any bytes may be refused as `NotYet`.
+/// Reads a whole log: what is read is spelled so, each byte of it, and only what is no log is refused as `NotYet`.
 pub fn read_first(alloc: Global, bytes: &[u8]) -> Result<FirstLog, FirstFault>
     requires { length bytes.now ≤ 88080384 }
     ensures spelled { IfOk result (λ log. Spells bytes.now log.tables log.txns) }
+    // NotYet comes only where the bytes are no log.
+    ensures refused { IsErrOf result FirstFault.NotYet → (tables : List TableDef) (txns : List Txn) → Spells bytes.now tables txns → ⊥ }
 {
     match log_in(alloc, bytes) {
         Ok(log) => Ok(log),

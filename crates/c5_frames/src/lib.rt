@@ -1,4 +1,4 @@
-//! Reads a whole log from bytes: what is read is spelled so, each byte of it.
+//! Reads a whole log from bytes: what is read is spelled so, each byte of it, and what is spelled is read.
 //!
 //! | part | bytes |
 //! |---|---|

@@ -1,0 +1,34 @@
+//! What a pass knows.
+
+use std::collections::LinkedList;
+
+/// What a slot was made with. No value of it is made.
+pub struct Origin<B> {
+    pub base: B,
+    pub passes: u64,
+}
+
+/// How far a pass has come with the turn.
+pub enum Stage {
+    /// It hasn't the turn.
+    Without,
+    /// It has the turn, and the value lies in the slot still.
+    Won,
+    /// It has the turn and the slot, and the value is with it.
+    Out,
+    /// It has the turn, and the value lies in the slot again.
+    Back,
+}
+
+/// What a pass knows. No value of it is made.
+pub struct Known<B, E> {
+    /// `None` where the pass was joined to another.
+    pub origin: Option<Origin<B>>,
+    /// The numbers that it unites.
+    pub numbers: LinkedList<u64>,
+    /// The history that it has seen.
+    pub seen: LinkedList<E>,
+    /// The holder words that its exchanges found.
+    pub looks: LinkedList<u64>,
+    pub stage: Stage,
+}
