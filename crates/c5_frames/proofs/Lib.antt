@@ -7,3 +7,4 @@ pub mod Following
 pub mod Again
 pub mod AgainHeaders
 pub mod AgainFrames
+pub mod Counts

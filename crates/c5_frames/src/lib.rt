@@ -1,4 +1,5 @@
-//! Reads a whole log from bytes: what is read is spelled so, each byte of it, and what is spelled is read.
+//! Reads a whole log from bytes, and spells one: what is read is spelled so, each byte of it, and what is
+//! spelled is read.
 //!
 //! | part | bytes |
 //! |---|---|
@@ -14,6 +15,7 @@
 //! Numbers have their highest byte first.
 #![tactic(auto)]
 
+mod encoding;
 mod fault;
 mod first;
 mod header;
@@ -22,6 +24,7 @@ mod numbers;
 mod partial;
 mod payload;
 
+pub use encoding::encode;
 pub use fault::FirstFault;
 pub use first::{FirstLog, read_first};
 pub use kinds::LogKind;

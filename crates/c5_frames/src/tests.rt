@@ -1,5 +1,10 @@
+ghost use Rattle.std.specs.Prelude.{◌≤◌, length};
+
 use super::*;
-use c5_rows::{Cell, CellType, Change, TextCell};
+use c5_rows::{
+    Cell, CellType, Change, Columns, Key, Row, RowName, Schema, TableDef, TableName, TextCell, Txn,
+    Writes,
+};
 use std::alloc::{AllocError, Global};
 use std::test::Fail;
 
@@ -184,6 +189,85 @@ fn an_unknown_column_type(rt: HostRuntime) -> Result<(), Fail> {
     assert_eq!(rt;
         fault_of(rt.alloc(), &header, &[&NONE[12..]])?,
         Some(FirstFault::NotYet)
+    );
+    Ok(())
+}
+
+// The spelling of one table and of one transaction, of script 0 and stamp 1, that changes one row of it.
+fn spelling_of(
+    alloc: Global,
+    name: &[u8],
+    types: &[CellType],
+    key: &[u8],
+    change: Change,
+) -> Result<Vec<u8>, Fail> {
+    let schema = Schema::one(TableDef {
+        name: TableName::new(name)?,
+        columns: Columns::new(types).ok_or("no columns")?,
+    });
+    let mut writes = Writes::new(alloc);
+    let name = RowName {
+        table: 0,
+        key: Key::new(key)?,
+    };
+    writes.set(name, change)?;
+    let txn = Txn {
+        script: 0,
+        stamp: 1,
+        writes,
+    };
+    Ok(encode(alloc, &schema, &[txn])?)
+}
+
+#[test]
+fn spellings_of_one_write(rt: HostRuntime) -> Result<(), Fail> {
+    let ten = Row::new(&[Cell::Int(10)]).ok_or("no row")?;
+    let bytes = spelling_of(
+        rt.alloc(),
+        b"acct",
+        &[CellType::Int],
+        b"a",
+        Change::Put(ten),
+    )?;
+    assert_eq!(rt; bytes.as_slice(), ONE.as_slice());
+    let hello = Cell::Txt(TextCell::new(b"hello world")?);
+    let row = Row::new(&[hello, Cell::Int(-5)]).ok_or("no row")?;
+    let bytes = spelling_of(
+        rt.alloc(),
+        b"t",
+        &[CellType::Text, CellType::Int],
+        b"k",
+        Change::Put(row),
+    )?;
+    assert_eq!(rt; bytes.as_slice(), TEXT.as_slice());
+    let bytes = spelling_of(rt.alloc(), b"acct", &[CellType::Int], b"a", Change::Gone)?;
+    let mut wanted = Vec::from_slice(rt.alloc(), &HEADER)?;
+    wanted.extend_from_slice(&GONE_A)?;
+    wanted.extend_from_slice(&MARK_1_OF_1)?;
+    wanted.extend_from_slice(&END_1)?;
+    assert_eq!(rt; bytes.as_slice(), wanted.as_slice());
+    Ok(())
+}
+
+// The bytes of a log that is read and spelled again.
+#[tactic(auto, using(crate::proofs::Counts::counts_fit))]
+fn spelled_again(alloc: Global, bytes: &[u8]) -> Result<Vec<u8>, Fail>
+    requires { length bytes.now ≤ 1000 }
+{
+    let log = read_first(alloc, bytes)?;
+    Ok(encode(alloc, log.schema(), log.txns())?)
+}
+
+#[test]
+fn what_is_read_is_spelled_again(rt: HostRuntime) -> Result<(), Fail> {
+    assert_eq!(rt; spelled_again(rt.alloc(), &ONE)?.as_slice(), ONE.as_slice());
+    assert_eq!(rt;
+        spelled_again(rt.alloc(), &NONE)?.as_slice(),
+        NONE.as_slice()
+    );
+    assert_eq!(rt;
+        spelled_again(rt.alloc(), &TEXT)?.as_slice(),
+        TEXT.as_slice()
     );
     Ok(())
 }
