@@ -4,7 +4,9 @@
 mod cells;
 mod lines;
 mod listing;
+mod reading;
 #[cfg(test)]
 mod tests;
 
 pub use listing::rows_text;
+pub use reading::read_row;
