@@ -150,3 +150,13 @@ module _ {E : Type 0} (caller : E → ℕ) where
   -- where each entry is of these numbers, all were seen
   pub seen_all_own : (log : List E) (numbers : List ℕ) (seen : List E) → AreOf caller numbers log → IsSeenOf caller log numbers seen → log ≡ entries_of caller numbers seen
   seen_all_own log numbers seen all s = sym (of_all numbers log all) ∙ seen_own log numbers seen s
+
+  -- ---- for callers of `give`
+
+  -- the history is the one that was taken
+  pub gives_same : (numbers : List ℕ) (seen log : List E) → log ≡ seen → (more : List E) × (log ≡ seen ++ more) × AreOf caller numbers more
+  gives_same numbers seen log same = ([], same ∙ sym (append-nil seen), All-nil (λ e. has (caller e) numbers ≡ true))
+
+  -- one entry was added
+  pub gives_one : (numbers : List ℕ) (seen log : List E) (e : E) → log ≡ seen ++ e ∷ [] → has (caller e) numbers ≡ true → (more : List E) × (log ≡ seen ++ more) × AreOf caller numbers more
+  gives_one numbers seen log e is among = (e ∷ [], is, All-cons (λ e. has (caller e) numbers ≡ true) e [] among (All-nil (λ e. has (caller e) numbers ≡ true)))

@@ -22,15 +22,18 @@ impl<V: Kept> Pass<V> {
 }
 
 impl<V: Kept> TurnSlot<V> {
-    /// Tries for the turn. One exchange decides.
+    /// Tries for the turn. One exchange decides: it finds 0, or the number of the pass that has the turn.
     pub fn try_take(&self, pass: Pass<V>) -> Take<V>
         requires { IsPassOf self.now pass }
-        ensures turn { IfTook result (λ x t. IsTurnOf self.now t × (turn_numbers t ≡ numbers pass) × (turn_seen t ≡ V.history x) × (turn_looks t ≡ looks pass ++ 0 ∷ [])) }
+        ensures turn { IfTook result (λ x t. IsTurnOf self.now t × (turn_numbers t ≡ numbers pass)) }
+        ensures took { IfTook result (λ x t. turn_looks t ≡ looks pass ++ 0 ∷ []) }
         ensures base { IfTook result (λ x t. V.base x ≡ base_of V.base self.now) }
+        ensures history { IfTook result (λ x t. turn_seen t ≡ V.history x) }
         ensures seen { IfTook result (λ x t. IsPrefix (seen pass) (V.history x)) }
         ensures own { IfTook result (λ x t. entries_of V.caller (numbers pass) (V.history x) ≡ own pass) }
-        ensures pass { IfBusy result (λ n p. IsPassOf self.now p × (numbers p ≡ numbers pass) × (seen p ≡ seen pass) × (looks p ≡ looks pass ++ n ∷ [])) }
-        ensures holder { IfBusy result (λ n p. (n ≢ 0) × IsNumber (passes self.now) n × (has n (numbers pass) ≡ false)) }
+        ensures pass { IfBusy result (λ n p. IsPassOf self.now p × (numbers p ≡ numbers pass) × (seen p ≡ seen pass)) }
+        ensures found { IfBusy result (λ n p. (looks p ≡ looks pass ++ n ∷ []) × (n ≢ 0)) }
+        ensures holder { IfBusy result (λ n p. IsNumber (passes self.now) n × (has n (numbers pass) ≡ false)) }
         ensures never_busy { HasAll self.now pass → IsTook result }
     {
         let Pass { number, mut seat } = pass;
@@ -42,6 +45,7 @@ impl<V: Kept> TurnSlot<V> {
                 pass: Pass { number, seat },
             };
         }
+        // With this load the slot is the pass's own, so that its value can be taken out.
         shared.load::<Takes>(&mut seat, COUNT);
         let Some(value) = shared.exchange(&mut seat, 0, None) else {
             unreachable!()
@@ -57,7 +61,8 @@ impl<V: Kept> TurnSlot<V> {
         requires turn { IsTurnOf self.now turn }
         requires base { V.base value ≡ base_of V.base self.now }
         requires history { (more : List V.Entry) × (V.history value ≡ turn_seen turn ++ more) × AreOf V.caller (turn_numbers turn) more }
-        ensures pass { IsPassOf self.now result × (numbers result ≡ turn_numbers turn) }
+        ensures pass { IsPassOf self.now result }
+        ensures numbers { numbers result ≡ turn_numbers turn }
         ensures seen { seen result ≡ V.history value }
         ensures looks { looks result ≡ turn_looks turn }
     {

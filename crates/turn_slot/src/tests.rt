@@ -16,6 +16,7 @@ struct Counter {
 
 impl Kept for Counter {
     type Base = u64;
+
     type Entry = u64;
 
     ghost base = { λ c. c.start };
@@ -69,7 +70,8 @@ fn busy_tells_the_holder_and_give_ends_the_turn(rt: HostRuntime) -> Result<(), F
     let Take::Busy {
         holder,
         pass: second,
-    } = slot.try_take(second) else {
+    } = slot.try_take(second)
+    else {
         panic!(rt; "the first pass has the turn")
     };
     assert_eq!(rt; holder, 1);
@@ -105,7 +107,10 @@ fn add_some(slot: &TurnSlot<Counter>, mut pass: Pass<Counter>) -> (Pass<Counter>
                 }
                 pass = slot.give(turn, value);
             }
-            Take::Busy { holder: _, pass: same } => {
+            Take::Busy {
+                holder: _,
+                pass: same,
+            } => {
                 pass = same;
                 yield_now();
             }
