@@ -4,7 +4,12 @@ pub use Rattle.c5_rows.specs.Tables
 pub use Rattle.c5_rows.specs.Writes
 pub use Rattle.c5_rows.specs.Fitting
 pub use Rattle.c5_rows.specs.State
+pub mod Keys
+pub mod Steps
+pub mod Numbers
 pub mod Spelling
+pub mod Frames
+pub mod Items
 pub mod Lawful
 pub mod Texts
 pub mod Worked

@@ -2,6 +2,10 @@
 //! of the other crates cite. Laws check them against logs that were worked by hand.
 #![tactic(auto)]
 
+mod fault;
+mod keys;
+mod script;
+
 ghost use Rattle.std.specs.Prelude.{◌≡◌};
 ghost use Rattle.std.specs.FinMap.{empty};
 ghost use Rattle.c5_rows.specs.Order.{row_name_cmp};
@@ -9,6 +13,10 @@ ghost use Rattle.c5_rows.specs.State.{state_after};
 ghost use Rattle.c5_definitions.specs.Lawful.{Spells};
 ghost use Rattle.c5_definitions.specs.Texts.{rows_text};
 ghost use Rattle.c5_definitions.specs.Worked.{worked_tables, worked_txns, worked_bytes, worked_text, text_tables, text_txns, text_bytes, text_text};
+
+pub use fault::{LogFault, LogKind};
+pub use keys::Keys;
+pub use script::{ReadLine, Rel, ScriptFault, ScriptKind, Statement, TurnWord};
 
 /// The bytes of a log that was worked by hand are its spelling.
 pub fn worked_log()
