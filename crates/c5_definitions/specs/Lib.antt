@@ -10,6 +10,8 @@ pub mod Numbers
 pub mod Spelling
 pub mod Frames
 pub mod Items
+pub mod ScriptParts
+pub mod Words
 pub mod Lawful
 pub mod Texts
 pub mod Worked
