@@ -1,6 +1,5 @@
 -- What a run leaves of its source and its sink, and when each status comes.
-use Rattle.std.specs.Prelude.{◌≡◌, ◌<◌, ◌≤◌, ◌^◌, ℕ, List, [], ◌∷◌, length, take, codes, string_bytes, Option, IfSome, Result, String}
-use Rattle.std.specs.declared.alloc.Global.{Global}
+use Rattle.std.specs.Prelude.{◌≡◌, ◌<◌, ◌≤◌, ℕ, List, [], take, length, Option, Some, IfSome, Err, Ok}
 use Rattle.std.specs.FinMap.{empty}
 use Rattle.std.specs.Io.KnownBytes.{Appends, Consumes, IsAtEnd}
 use Rattle.c5_rows.specs.declared.tables.TableDef.{TableDef}
@@ -8,73 +7,94 @@ use Rattle.c5_rows.specs.declared.writes.Txn.{Txn}
 use Rattle.c5_rows.specs.Order.{row_name_cmp}
 use Rattle.c5_rows.specs.State.{state_after}
 use Rattle.c5_definitions.specs.Lawful.{Spells}
+use Rattle.c5_definitions.specs.Items.{fault_of}
 use Rattle.c5_definitions.specs.Texts.{rows_text}
+use Rattle.c5_definitions.specs.ScriptParts.{ScriptParts}
+use Rattle.c5_definitions.specs.Script.{script_of}
+use Rattle.c5_definitions.specs.SerialRun.{SerialRun}
 use Rattle.c5_io.specs.Causes.{Rose}
+use Rattle.c5_driver.specs.declared.command.Command.{Command}
+use Rattle.c5_driver.specs.declared.command.Command.TheVariants.{Apply, Primary}
+use Rattle.c5_driver.specs.declared.refusal.Refusal.{Refusal}
+use Rattle.c5_driver.specs.declared.refusal.Refusal.TheVariants as refusals
 use Rattle.c5_driver.specs.declared.status.Status.{Status}
 use Rattle.c5_driver.specs.declared.status.Status.TheVariants as statuses
+use Rattle.c5_driver.specs.Commands.{input_limit}
+use Rattle.c5_driver.specs.Excesses.{excess_of}
 
--- the one word `apply`
-abbrev pub AreApply : List (String Global) → Type 0
-AreApply [] = ⊥
-AreApply (word ∷ []) = string_bytes word ≡ codes "apply"
-AreApply (word ∷ other ∷ words) = ⊥
-
--- the most bytes that an input has
-abbrev pub input_limit : ℕ
-input_limit = 88080384
+-- ---- inputs
 
 -- the input was all that was left, where that is told, and nothing is left
-pub record ReadsWhole (old new : Option (List ℕ)) (input : List ℕ) : Type 0 where
+pub record ReadsWhole (command : Command) (old new : Option (List ℕ)) (input : List ℕ) : Type 0 where
   pub consumed : Consumes old new input
   pub ended : IsAtEnd new
-  pub within : length input ≤ input_limit
+  pub within : length input ≤ input_limit command
 
--- the input is the spelling of no lawful tables and transactions
-abbrev pub IsNoLog : List ℕ → Type 0
-IsNoLog input = (tables : List TableDef) (txns : List Txn) → Spells input tables txns → ⊥
+-- ---- texts
 
 -- the input is a log, and the text is that of all rows after the whole of it
-pub record IsTextOf (input text : List ℕ) : Type 0 where
+pub record IsRowsAfter (input text : List ℕ) : Type 0 where
   pub tables : List TableDef
   pub txns : List Txn
   pub log : Spells input tables txns
   pub rows : text ≡ rows_text tables (state_after (empty {R = row_name_cmp}) txns (length txns))
 
+-- the input is a script, and the text is a log of a serial run of its bodies from no rows
+pub record IsLogOfRun (input text : List ℕ) : Type 0 where
+  pub script : ScriptParts
+  pub txns : List Txn
+  pub read : script_of input ≡ Ok script
+  pub run : SerialRun script.bodies (empty {R = row_name_cmp}) txns
+  pub log : Spells text script.tables txns
+
+-- what a command makes of an input
+abbrev pub IsTextOf : Command → List ℕ → List ℕ → Type 0
+IsTextOf Apply input text = IsRowsAfter input text
+IsTextOf Primary input text = IsLogOfRun input text
+
 -- a sink grew by a front of the text, which may be the whole of it
 abbrev pub PrintsFront : Option (List ℕ) → Option (List ℕ) → List ℕ → Type 0
 PrintsFront old new text = (n : ℕ) × Appends old new (take n text)
 
--- the text of the rows after the whole input, printed
-pub record PrintsRows (left_old left_new held_old held_new : Option (List ℕ)) : Type 0 where
+-- the text of the whole input, printed
+pub record Prints (command : Command) (left_old left_new held_old held_new : Option (List ℕ)) : Type 0 where
   pub input : List ℕ
   pub text : List ℕ
-  pub read : ReadsWhole left_old left_new input
-  pub rows : IsTextOf input text
+  pub read : ReadsWhole command left_old left_new input
+  pub made : IsTextOf command input text
   pub printed : Appends held_old held_new text
 
 -- the same, printed in part
-pub record PrintsSomeRows (left_old left_new held_old held_new : Option (List ℕ)) : Type 0 where
+pub record PrintsSome (command : Command) (left_old left_new held_old held_new : Option (List ℕ)) : Type 0 where
   pub input : List ℕ
   pub text : List ℕ
-  pub read : ReadsWhole left_old left_new input
-  pub rows : IsTextOf input text
+  pub read : ReadsWhole command left_old left_new input
+  pub made : IsTextOf command input text
   pub printed : PrintsFront held_old held_new text
 
--- the line that a status prints, if it prints one
-abbrev pub fault_line : Status → List ℕ
-fault_line statuses.BadWords = codes "bad words\n"
-fault_line statuses.TooLong = codes "too long\n"
-fault_line statuses.NotYet = codes "not yet\n"
-fault_line status = []
+-- ---- refusals
+
+-- the input is refused by what it is: its first fault, or what it has too many of
+abbrev pub IsFaulty : Command → List ℕ → Refusal → Type 0
+IsFaulty Apply input (refusals.BadLog fault) = fault_of input ≡ Some fault
+IsFaulty Primary input (refusals.BadScript fault) = script_of input ≡ Err fault
+IsFaulty Primary input (refusals.Limit excess) = (script : ScriptParts) × (script_of input ≡ Ok script) × (excess_of script ≡ Some excess)
+IsFaulty command input refusal = ⊥
+
+-- when a command refuses, and what it leaves of the source
+abbrev pub Refuses : Command → Refusal → ℕ → ℕ → Option (List ℕ) → Option (List ℕ) → Type 0
+Refuses command refusals.BadWords faults_old faults_new left_old left_new = ⊥
+Refuses command refusals.ReadFault faults_old faults_new left_old left_new = Rose faults_old faults_new
+Refuses command refusals.TooLong faults_old faults_new left_old left_new = (faults_new ≡ faults_old) × IfSome left_old (λ left. input_limit command < length left)
+Refuses command refusals.NoMemory faults_old faults_new left_old left_new = faults_new ≡ faults_old
+Refuses command refusal faults_old faults_new left_old left_new = (faults_new ≡ faults_old) × (input : List ℕ) × ReadsWhole command left_old left_new input × IsFaulty command input refusal
 
 -- a sink grew by the line where its count of faults did not rise, and else by a front of it
 pub record PrintsLine (faults_old faults_new : ℕ) (held_old held_new : Option (List ℕ)) (line : List ℕ) : Type 0 where
   pub front : PrintsFront held_old held_new line
   pub whole : ¬ Rose faults_old faults_new → Appends held_old held_new line
 
--- the status prints a line
-abbrev pub IsToldByLine : Status → Type 0
-IsToldByLine status = ¬ (fault_line status ≡ [])
+-- ---- counts of faults
 
 -- the source's count rose where a read failed, and is else as it was
 abbrev pub SourceFaults : Status → ℕ → ℕ → Type 0
@@ -86,11 +106,3 @@ abbrev pub SinkFaults : Status → ℕ → ℕ → Type 0
 SinkFaults statuses.Ok old new = new ≡ old
 SinkFaults statuses.WriteFault old new = Rose old new
 SinkFaults status old new = old ≤ new
-
--- when a command refuses its input with a status, and what it leaves of the source
-abbrev pub Refuses : Status → ℕ → ℕ → Option (List ℕ) → Option (List ℕ) → Type 0
-Refuses statuses.ReadFault faults_old faults_new left_old left_new = Rose faults_old faults_new
-Refuses statuses.TooLong faults_old faults_new left_old left_new = (faults_new ≡ faults_old) × IfSome left_old (λ left. input_limit < length left)
-Refuses statuses.NotYet faults_old faults_new left_old left_new = (faults_new ≡ faults_old) × (input : List ℕ) × ReadsWhole left_old left_new input × IsNoLog input
-Refuses statuses.NoMemory faults_old faults_new left_old left_new = faults_new ≡ faults_old
-Refuses status faults_old faults_new left_old left_new = ⊥

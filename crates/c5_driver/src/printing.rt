@@ -1,12 +1,17 @@
 //! What is written to the sink.
 
-ghost use Rattle.std.specs.Prelude.{◌≡◌, ◌≢◌, ◌⊎◌, ◌≤◌, [], true, is_ok};
+ghost use Rattle.std.specs.Prelude.{◌≡◌, ◌⊎◌, ◌≤◌, ℕ, List, [], true, is_ok};
 ghost use Rattle.std.specs.Io.KnownBytes.{Appends, Keeps};
 ghost use Rattle.c5_io.specs.Causes.{Rose, HasCause};
-ghost use Rattle.c5_driver.specs.Outcome.{PrintsFront, PrintsLine, fault_line};
+ghost use Rattle.c5_driver.specs.Outcome.{PrintsFront, PrintsLine};
+ghost use Rattle.c5_driver.specs.Refusals.{line_of, limit_line, log_ending, place_line, script_ending};
 
+use crate::refusal::{Excess, Refusal};
 use crate::status::Status;
+use c5_frames::LogKind;
 use c5_io::{Failed, Sink, write_all};
+use c5_script::ScriptKind;
+use itoa::Buffer;
 
 // Passes on what was written.
 fn finish<K: Sink>(sink: &mut K) -> Result<(), Failed>
@@ -36,32 +41,117 @@ pub fn print<K: Sink>(sink: &mut K, text: &[u8]) -> Status
     }
 }
 
-/// The line that a status prints, with its line end; no bytes where it prints none.
-pub fn line_of(status: Status) -> &'static [u8]
-    ensures { result.now ≡ fault_line status }
-{
-    match status {
-        Status::BadWords => b"bad words\n",
-        Status::TooLong => b"too long\n",
-        Status::NotYet => b"not yet\n",
-        Status::Ok | Status::ReadFault | Status::WriteFault | Status::NoMemory => b"",
-    }
-}
-
-/// Writes the line of a refusal. Where that fails, the status stays.
-pub fn refuse<K: Sink>(sink: &mut K, status: Status)
-    ensures line { PrintsLine (K.faults sink.old) (K.faults sink.new) (K.held sink.old) (K.held sink.new) (fault_line status) }
+// Writes a line and flushes. What fails is passed over.
+fn tell<K: Sink>(sink: &mut K, line: &[u8])
+    ensures line { PrintsLine (K.faults sink.old) (K.faults sink.new) (K.held sink.old) (K.held sink.new) line.now }
     ensures later { K.faults sink.old ≤ K.faults sink.new }
-    ensures untouched { fault_line status ≡ [] → sink.new ≡ sink.old }
 {
-    let line = line_of(status);
-    if line.is_empty() {
-        return;
-    }
     match write_all(sink, line) {
         Ok(()) => {
             let _ = finish(sink);
         }
         Err(Failed) => {}
+    }
+}
+
+// Writes three parts of a line, one after the other, up to the first that fails.
+fn write_parts<K: Sink>(
+    sink: &mut K,
+    front: &[u8],
+    middle: &[u8],
+    ending: &[u8],
+) -> Result<(), Failed>
+    ensures front { PrintsFront (K.held sink.old) (K.held sink.new) (front.now ++ middle.now ++ ending.now) }
+    ensures whole { OnOk result (Appends (K.held sink.old) (K.held sink.new) (front.now ++ middle.now ++ ending.now)) }
+    ensures cause { HasCause (K.faults sink.old) (K.faults sink.new) result }
+{
+    write_all(sink, front)?;
+    write_all(sink, middle)?;
+    write_all(sink, ending)
+}
+
+// Writes a line with a number in its middle and flushes. What fails is passed over.
+fn tell_place<K: Sink>(sink: &mut K, front: &[u8], place: u32, ending: &[u8])
+    ensures line { PrintsLine (K.faults sink.old) (K.faults sink.new) (K.held sink.old) (K.held sink.new) (place_line front.now place ending.now) }
+    ensures later { K.faults sink.old ≤ K.faults sink.new }
+{
+    let mut digits = Buffer::new();
+    match write_parts(sink, front, digits.format(place).as_bytes(), ending) {
+        Ok(()) => {
+            let _ = finish(sink);
+        }
+        Err(Failed) => {}
+    }
+}
+
+fn ending_of_log(kind: LogKind) -> &'static [u8]
+    ensures { result.now ≡ log_ending kind }
+{
+    match kind {
+        LogKind::Magic => b" magic\n",
+        LogKind::Header => b" header\n",
+        LogKind::Length => b" length\n",
+        LogKind::Kind => b" kind\n",
+        LogKind::Table => b" table\n",
+        LogKind::Key => b" key\n",
+        LogKind::Cell => b" cell\n",
+        LogKind::Order => b" order\n",
+        LogKind::Stamp => b" stamp\n",
+        LogKind::Count => b" count\n",
+        LogKind::End => b" end\n",
+        LogKind::Cut => b" cut\n",
+        LogKind::After => b" after\n",
+    }
+}
+
+fn ending_of_script(kind: ScriptKind) -> &'static [u8]
+    ensures { result.now ≡ script_ending kind }
+{
+    match kind {
+        ScriptKind::Byte => b" byte\n",
+        ScriptKind::Quote => b" quote\n",
+        ScriptKind::Word => b" word\n",
+        ScriptKind::Limit => b" limit\n",
+        ScriptKind::Count => b" count\n",
+        ScriptKind::Name => b" name\n",
+        ScriptKind::Table => b" table\n",
+        ScriptKind::Key => b" key\n",
+        ScriptKind::Column => b" column\n",
+        ScriptKind::WrongType => b" type\n",
+        ScriptKind::Number => b" number\n",
+        ScriptKind::Unclosed => b" unclosed\n",
+    }
+}
+
+fn line_of_limit(excess: Excess) -> &'static [u8]
+    ensures { result.now ≡ limit_line excess }
+{
+    match excess {
+        Excess::Transactions => b"limit transactions\n",
+        Excess::Writes => b"limit writes\n",
+        Excess::Rows => b"limit rows\n",
+    }
+}
+
+/// Writes the line of a refusal, if it has one, and flushes. Where that fails, the refusal stands.
+pub fn refuse<K: Sink>(sink: &mut K, refusal: Refusal)
+    ensures line { PrintsLine (K.faults sink.old) (K.faults sink.new) (K.held sink.old) (K.held sink.new) (line_of refusal) }
+    ensures later { K.faults sink.old ≤ K.faults sink.new }
+    ensures untouched { line_of refusal ≡ [] → sink.new ≡ sink.old }
+{
+    match refusal {
+        Refusal::BadWords => tell(sink, b"bad words\n"),
+        Refusal::TooLong => tell(sink, b"too long\n"),
+        Refusal::BadScript(fault) => tell_place(
+            sink,
+            b"bad script line ",
+            fault.line,
+            ending_of_script(fault.kind),
+        ),
+        Refusal::BadLog(fault) => {
+            tell_place(sink, b"bad log at ", fault.offset, ending_of_log(fault.kind))
+        }
+        Refusal::Limit(excess) => tell(sink, line_of_limit(excess)),
+        Refusal::ReadFault | Refusal::NoMemory => {}
     }
 }

@@ -1,20 +1,29 @@
 //! The top call.
 
-ghost use Rattle.std.specs.Prelude.{◌≡◌, ◌↔◌, ◌⊎◌, ◌<◌, ℕ, List, length, IsTrue, IfSome, true};
-ghost use Rattle.c5_driver.specs.Outcome.{AreApply, ReadsWhole, IsNoLog, PrintsRows, PrintsSomeRows, PrintsLine, IsToldByLine, fault_line, input_limit, SourceFaults, SinkFaults};
+ghost use Rattle.std.specs.Prelude.{◌≡◌, ◌⊎◌, ◌<◌, ◌≤◌, ℕ, List, length, IsSome, IfSome, Some, None, true};
+ghost use Rattle.c5_io.specs.Causes.{Rose};
+ghost use Rattle.c5_driver.specs.Commands.{command_of, input_limit};
+ghost use Rattle.c5_driver.specs.Refusals.{line_of, status_of};
+ghost use Rattle.c5_driver.specs.Outcome.{ReadsWhole, Prints, PrintsSome, PrintsLine, IsFaulty, Tells, SourceFaults, SinkFaults};
 
 use crate::apply::apply;
+use crate::command::{Command, command_of};
+use crate::primary::primary;
 use crate::printing::{print, refuse};
+use crate::refusal::Refusal;
 use crate::status::Status;
 use c5_io::{Sink, Source};
 use std::alloc::Global;
 
-fn are_apply(words: &[String]) -> bool
-    ensures { IsTrue result ↔ AreApply words.now }
+// What the command makes of the source's bytes, or why it makes nothing.
+fn text_of<S: Source>(alloc: Global, command: Command, source: &mut S) -> Result<Vec<u8>, Refusal>
+    ensures ok { IfOk result (λ text. (input : List ℕ) × ReadsWhole command (S.left source.old) (S.left source.new) input × IsTextOf command input text.items) }
+    ensures faults { OnOk result (S.faults source.new ≡ S.faults source.old) }
+    ensures refused { IfErr result (λ refusal. Refuses command refusal (S.faults source.old) (S.faults source.new) (S.left source.old) (S.left source.new)) }
 {
-    match words {
-        [word] => word.as_str() == "apply",
-        _ => false,
+    match command {
+        Command::Apply => apply(alloc, source),
+        Command::Primary => primary(alloc, source),
     }
 }
 
@@ -26,37 +35,39 @@ pub fn c5<S: Source, K: Sink>(
     source: &mut S,
     sink: &mut K,
 ) -> Status
-    // Ok: the input is a log, nothing of it is left, and the text of all rows after it was printed.
-    ensures ok { result ≡ Status.Ok → PrintsRows (S.left source.old) (S.left source.new) (K.held sink.old) (K.held sink.new) }
+    // Ok: the input was read whole, and what the command makes of it was printed whole and flushed.
+    ensures ok { result ≡ Status.Ok → IfSome (command_of words.now) (λ command. Prints command (S.left source.old) (S.left source.new) (K.held sink.old) (K.held sink.new)) }
     ensures flushed { result ≡ Status.Ok → K.flushed sink.new ≡ true }
 
-    // BadWords comes exactly where the words aren't the one word, and then nothing is read.
-    ensures words { result ≡ Status.BadWords → ¬ AreApply words.now }
-    ensures other_words { ¬ AreApply words.now → result ≡ Status.BadWords }
+    // BadWords comes exactly where the words are no command, and then nothing is read.
+    ensures words { result ≡ Status.BadWords → command_of words.now ≡ None }
+    ensures other_words { command_of words.now ≡ None → result ≡ Status.BadWords }
     ensures unread { result ≡ Status.BadWords → source.new ≡ source.old }
 
-    // TooLong: the input is longer than the limit. NotYet: it was read whole, and is no log.
-    ensures too_long { result ≡ Status.TooLong → IfSome (S.left source.old) (λ left. input_limit < length left) }
-    ensures not_yet { result ≡ Status.NotYet → (input : List ℕ) × ReadsWhole (S.left source.old) (S.left source.new) input × IsNoLog input }
+    // BadScript, BadLog and Limit come exactly by what the input is, with the line that tells it.
+    ensures faulty { IsByInput result → IfSome (command_of words.now) (λ command. Tells command result (S.left source.old) (S.left source.new) (K.faults sink.old) (K.faults sink.new) (K.held sink.old) (K.held sink.new)) }
 
-    // WriteFault: a front of the text was printed. ReadFault and NoMemory: nothing. Else: a line.
-    ensures write_fault { result ≡ Status.WriteFault → PrintsSomeRows (S.left source.old) (S.left source.new) (K.held sink.old) (K.held sink.new) }
+    // TooLong: the input is longer than the command's limit.
+    ensures too_long { result ≡ Status.TooLong → IfSome (command_of words.now) (λ command. IfSome (S.left source.old) (λ left. input_limit command < length left)) }
+    ensures line { (result ≡ Status.BadWords → PrintsLine (K.faults sink.old) (K.faults sink.new) (K.held sink.old) (K.held sink.new) (line_of Refusal.BadWords)) }
+
+    // WriteFault: a front of the text was printed. ReadFault and NoMemory: nothing.
+    ensures write_fault { result ≡ Status.WriteFault → IfSome (command_of words.now) (λ command. PrintsSome command (S.left source.old) (S.left source.new) (K.held sink.old) (K.held sink.new)) }
     ensures unwritten { (result ≡ Status.ReadFault) ⊎ (result ≡ Status.NoMemory) → sink.new ≡ sink.old }
-    ensures line { IsToldByLine result → PrintsLine (K.faults sink.old) (K.faults sink.new) (K.held sink.old) (K.held sink.new) (fault_line result) }
 
     // ReadFault and WriteFault come only where that end's count rose; no other status has a read that failed.
     ensures source_faults { SourceFaults result (S.faults source.old) (S.faults source.new) }
     ensures sink_faults { SinkFaults result (K.faults sink.old) (K.faults sink.new) }
 {
-    if !are_apply(words) {
-        refuse(sink, Status::BadWords);
+    let Some(command) = command_of(words) else {
+        refuse(sink, Refusal::BadWords);
         return Status::BadWords;
-    }
-    match apply(alloc, source) {
+    };
+    match text_of(alloc, command, source) {
         Ok(text) => print(sink, &text),
-        Err(status) => {
-            refuse(sink, status);
-            status
+        Err(refusal) => {
+            refuse(sink, refusal);
+            refusal.status()
         }
     }
 }

@@ -9,6 +9,10 @@ pub enum Status {
     Ok,
     /// The words of the command line are no command.
     BadWords,
+    /// The script has a fault.
+    BadScript,
+    /// The log has a fault.
+    BadLog,
     /// A read failed.
     ReadFault,
     /// A write or the flush failed.
@@ -17,8 +21,8 @@ pub enum Status {
     NoMemory,
     /// There are more bytes than the command reads.
     TooLong,
-    /// The input was read whole and is no log.
-    NotYet,
+    /// There are more transactions, writes or rows than a log may have.
+    Limit,
 }
 
 impl Status {
@@ -31,11 +35,13 @@ impl Status {
         match self {
             Status::Ok => 0,
             Status::BadWords => 2,
+            Status::BadScript => 3,
+            Status::BadLog => 4,
             Status::ReadFault => 5,
             Status::WriteFault => 6,
             Status::NoMemory => 7,
             Status::TooLong => 8,
-            Status::NotYet => 10,
+            Status::Limit => 9,
         }
     }
 }

@@ -1,0 +1,143 @@
+"""Writes the logs and scripts that the benchmarks read."""
+import os
+import sys
+
+
+def frame(payload):
+    return len(payload).to_bytes(4, "big") + payload
+
+
+def text(data):
+    return bytes([len(data)]) + data
+
+
+def mark(script, stamp, count):
+    return frame(b"C" + script.to_bytes(4, "big") + stamp.to_bytes(8, "big") + count.to_bytes(4, "big"))
+
+
+def end(count):
+    return frame(b"E" + count.to_bytes(4, "big"))
+
+
+TRANSACTIONS = 65_536
+WRITES = 4
+TABLES = 16
+ONE_TABLE = b"C5L1\x01" + text(b"acct") + b"\x01\x01"
+
+
+# The longest log within the limits: 81,068,462 bytes. Its rows are as many as its transactions.
+def longest(out):
+    names = [b"table_of_rows_%02d" % number for number in range(TABLES)]
+    out.write(b"C5L1" + bytes([TABLES]))
+    for name in names:
+        assert len(name) == 16
+        out.write(text(name) + bytes([8]) + bytes([2] * 8))
+    for number in range(TRANSACTIONS):
+        # Four rows that lie far apart, so that the tree of rows is entered at random.
+        rows = sorted((number * 4 + k) * 40_503 % 65_536 for k in range(WRITES))
+        for row in rows:
+            key = b"key_%028d" % row
+            cells = b"".join(text(b"%016d%08d%08d" % (number, row, column)) for column in range(8))
+            out.write(frame(b"W" + bytes([row // 4096]) + text(key) + b"\0" + cells))
+        out.write(mark(number, number + 1, WRITES))
+    out.write(end(TRANSACTIONS))
+
+
+def put(key, number):
+    return frame(b"W\0" + text(key) + b"\0" + number.to_bytes(8, "big"))
+
+
+# 65,536 transactions of 2 writes over 64 rows.
+def few_rows(out):
+    out.write(ONE_TABLE)
+    for number in range(TRANSACTIONS):
+        for row in sorted({number * 7 % 64, (number * 7 + 1 + number % 63) % 64}):
+            out.write(put(b"acct%02d" % row, number))
+        out.write(mark(number, number + 1, 2))
+    out.write(end(TRANSACTIONS))
+
+
+# 65,536 transactions of 4 writes over 64,000 rows that lie far apart.
+def many_rows(out):
+    out.write(ONE_TABLE)
+    for number in range(TRANSACTIONS):
+        for row in sorted((number * 4 + k) * 40_503 % 64_000 for k in range(WRITES)):
+            out.write(put(b"account_%06d" % row, number))
+        out.write(mark(number, number + 1, WRITES))
+    out.write(end(TRANSACTIONS))
+
+
+# 262,144 writes in one transaction: each is of a row of its own.
+def one_transaction(out):
+    out.write(ONE_TABLE)
+    for number in range(TRANSACTIONS * WRITES):
+        out.write(put(b"%07d" % number, number))
+    out.write(mark(0, 1, TRANSACTIONS * WRITES) + end(1))
+
+
+# The same writes in transactions of four.
+def many_transactions(out):
+    out.write(ONE_TABLE)
+    for number in range(TRANSACTIONS):
+        for write in range(number * WRITES, (number + 1) * WRITES):
+            out.write(put(b"%07d" % write, write))
+        out.write(mark(number, number + 1, WRITES))
+    out.write(end(TRANSACTIONS))
+
+
+SCRIPT_BYTES = 4_194_304
+
+
+# Lines up to the longest script that is read, and line ends for what is left.
+def fill(out, head, blocks):
+    out.write(head)
+    size = len(head)
+    for block in blocks:
+        if size + len(block) > SCRIPT_BYTES:
+            break
+        out.write(block)
+        size += len(block)
+    out.write(b"\n" * (SCRIPT_BYTES - size))
+
+
+# Transfers between 64 accounts.
+def transfers(out):
+    def blocks():
+        yield b"txn\n" + b"".join(b"put acct a%02d 1000\n" % row for row in range(64)) + b"end\n"
+        x = 1
+        while True:
+            x = (x * 6364136223846793005 + 1442695040888963407) % (1 << 64)
+            source = x >> 58
+            to = (source + 1 + (x >> 40) % 63) % 64
+            amount = 1 + (x >> 20) % 100
+            yield (b"txn\nneed acct a%02d 0 ge %d\nadd acct a%02d 0 -%d\nadd acct a%02d 0 %d\nend\n"
+                   % (source, amount, source, amount, to, amount))
+
+    fill(out, b"table acct int\n", blocks())
+
+
+# Rows of 16 tables with texts.
+def texts(out):
+    def blocks():
+        number = 0
+        while True:
+            lines = []
+            for k in range(16):
+                row = number * 16 + k
+                lines.append(b'put t%02d key_%05d "text of row %d" %d "more of it"\n' % (k, row * 40_503 % 50_000, row, row))
+            lines.append(b"copy t%02d key_%05d copy_%04d\n" % (number % 16, number * 40_503 % 50_000, number % 1000))
+            yield b"txn\n" + b"".join(lines) + b"end\n"
+            number += 1
+
+    fill(out, b"".join(b"table t%02d text int text\n" % table for table in range(16)), blocks())
+
+
+FILES = {"longest": ".log", "few_rows": ".log", "many_rows": ".log", "one_transaction": ".log",
+         "many_transactions": ".log", "transfers": ".c5s", "texts": ".c5s"}
+
+if __name__ == "__main__":
+    folder = sys.argv[1]
+    os.makedirs(folder, exist_ok=True)
+    for name, ending in FILES.items():
+        with open(os.path.join(folder, name + ending), "wb", buffering=1 << 20) as out:
+            globals()[name](out)

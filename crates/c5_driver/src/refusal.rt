@@ -1,0 +1,55 @@
+//! Why a run ends without its text.
+
+ghost use Rattle.std.specs.Prelude.{◌≡◌};
+ghost use Rattle.c5_driver.specs.Refusals.{status_of};
+
+use crate::status::Status;
+use c5_frames::LogFault;
+use c5_script::ScriptFault;
+
+/// What there are too many of.
+#[derive(Clone, Copy, Debug, PartialEq, Eq)]
+pub enum Excess {
+    /// More than 65,536 transactions.
+    Transactions,
+    /// More than 262,144 writes.
+    Writes,
+    /// More than 65,536 rows.
+    Rows,
+}
+
+/// Why a run ends without its text.
+#[derive(Clone, Copy, Debug, PartialEq, Eq)]
+pub enum Refusal {
+    /// The words of the command line are no command.
+    BadWords,
+    /// A read failed.
+    ReadFault,
+    /// The input is longer than the command's limit.
+    TooLong,
+    /// Memory was refused.
+    NoMemory,
+    /// The first fault of the script.
+    BadScript(ScriptFault),
+    /// The first fault of the log.
+    BadLog(LogFault),
+    /// What the script has too many of.
+    Limit(Excess),
+}
+
+impl Refusal {
+    /// The status that the run ends with.
+    pub fn status(self) -> Status
+        ensures { result ≡ status_of self }
+    {
+        match self {
+            Refusal::BadWords => Status::BadWords,
+            Refusal::ReadFault => Status::ReadFault,
+            Refusal::TooLong => Status::TooLong,
+            Refusal::NoMemory => Status::NoMemory,
+            Refusal::BadScript(_) => Status::BadScript,
+            Refusal::BadLog(_) => Status::BadLog,
+            Refusal::Limit(_) => Status::Limit,
+        }
+    }
+}
