@@ -4,5 +4,6 @@ pub use Rattle.c5_definitions.specs.Texts
 pub mod Numbers
 pub mod Commands
 pub mod Refusals
+pub mod Printed
 pub mod Excesses
 pub mod Outcome

@@ -21,6 +21,8 @@ use Rattle.c5_driver.specs.declared.status.Status.{Status}
 use Rattle.c5_driver.specs.declared.status.Status.TheVariants as statuses
 use Rattle.c5_driver.specs.Commands.{input_limit}
 use Rattle.c5_driver.specs.Excesses.{excess_of}
+use Rattle.c5_driver.specs.Refusals.{status_of, line_of}
+use Rattle.c5_driver.specs.Printed.{PrintsFront, PrintsLine}
 
 -- ---- inputs
 
@@ -52,10 +54,6 @@ abbrev pub IsTextOf : Command → List ℕ → List ℕ → Type 0
 IsTextOf Apply input text = IsRowsAfter input text
 IsTextOf Primary input text = IsLogOfRun input text
 
--- a sink grew by a front of the text, which may be the whole of it
-abbrev pub PrintsFront : Option (List ℕ) → Option (List ℕ) → List ℕ → Type 0
-PrintsFront old new text = (n : ℕ) × Appends old new (take n text)
-
 -- the text of the whole input, printed
 pub record Prints (command : Command) (left_old left_new held_old held_new : Option (List ℕ)) : Type 0 where
   pub input : List ℕ
@@ -81,6 +79,11 @@ IsFaulty Primary input (refusals.BadScript fault) = script_of input ≡ Err faul
 IsFaulty Primary input (refusals.Limit excess) = (script : ScriptParts) × (script_of input ≡ Ok script) × (excess_of script ≡ Some excess)
 IsFaulty command input refusal = ⊥
 
+-- the bytes of a script are refused by what they are, or for want of memory
+abbrev pub IsRefusedScript : List ℕ → Refusal → Type 0
+IsRefusedScript input refusals.NoMemory = Unit {0}
+IsRefusedScript input refusal = IsFaulty Primary input refusal
+
 -- when a command refuses, and what it leaves of the source
 abbrev pub Refuses : Command → Refusal → ℕ → ℕ → Option (List ℕ) → Option (List ℕ) → Type 0
 Refuses command refusals.BadWords faults_old faults_new left_old left_new = ⊥
@@ -89,10 +92,21 @@ Refuses command refusals.TooLong faults_old faults_new left_old left_new = (faul
 Refuses command refusals.NoMemory faults_old faults_new left_old left_new = faults_new ≡ faults_old
 Refuses command refusal faults_old faults_new left_old left_new = (faults_new ≡ faults_old) × (input : List ℕ) × ReadsWhole command left_old left_new input × IsFaulty command input refusal
 
--- a sink grew by the line where its count of faults did not rise, and else by a front of it
-pub record PrintsLine (faults_old faults_new : ℕ) (held_old held_new : Option (List ℕ)) (line : List ℕ) : Type 0 where
-  pub front : PrintsFront held_old held_new line
-  pub whole : ¬ Rose faults_old faults_new → Appends held_old held_new line
+-- the status comes by what the input is
+abbrev pub IsByInput : Status → Type 0
+IsByInput statuses.BadScript = Unit {0}
+IsByInput statuses.BadLog = Unit {0}
+IsByInput statuses.Limit = Unit {0}
+IsByInput status = ⊥
+
+-- the whole input was read, and is refused with this status; the line that tells why was printed
+pub record Tells (command : Command) (status : Status) (left_old left_new : Option (List ℕ)) (faults_old faults_new : ℕ) (held_old held_new : Option (List ℕ)) : Type 0 where
+  pub refusal : Refusal
+  pub input : List ℕ
+  pub read : ReadsWhole command left_old left_new input
+  pub faulty : IsFaulty command input refusal
+  pub status : status_of refusal ≡ status
+  pub printed : PrintsLine faults_old faults_new held_old held_new (line_of refusal)
 
 -- ---- counts of faults
 

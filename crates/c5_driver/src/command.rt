@@ -1,7 +1,6 @@
 //! The commands, and the words that name them.
 
 ghost use Rattle.std.specs.Prelude.{◌≡◌};
-ghost use Rattle.std.specs.Str.{str_bytes};
 ghost use Rattle.c5_driver.specs.Commands.{command_named, command_of, input_limit};
 
 /// What the program is asked to do.
@@ -26,7 +25,7 @@ impl Command {
 }
 
 fn named(word: &str) -> Option<Command>
-    ensures { result ≡ command_named (str_bytes word) }
+    ensures { result ≡ command_named word.now }
 {
     if word == "apply" {
         return Some(Command::Apply);

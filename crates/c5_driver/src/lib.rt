@@ -2,10 +2,16 @@
 #![tactic(auto)]
 
 mod apply;
+mod command;
+mod decoding;
+mod primary;
 mod printing;
+mod refusal;
 mod run;
 mod status;
 
+pub use command::Command;
+pub use refusal::{Excess, Refusal};
 pub use run::c5;
 pub use status::Status;
 

@@ -1,13 +1,14 @@
 //! The command `primary`: the log of a script's transactions, run one by one.
 
-ghost use Rattle.std.specs.Prelude.{◌≡◌, ◌≤◌, ℕ, List, Some, Ok, IfOk, IfErr, OnOk};
+ghost use Rattle.std.specs.Prelude.{◌≡◌, ◌≤◌, ℕ, List, length, None, Ok, IfOk, IfErr, OnOk};
 ghost use Rattle.std.specs.FinMap.{empty};
 ghost use Rattle.c5_rows.specs.Order.{row_name_cmp};
 ghost use Rattle.c5_definitions.specs.Lawful.{Spells};
 ghost use Rattle.c5_definitions.specs.Script.{script_of};
 ghost use Rattle.c5_definitions.specs.SerialRun.{SerialRun};
 ghost use Rattle.c5_driver.specs.Excesses.{excess_of};
-ghost use Rattle.c5_driver.specs.Outcome.{ReadsWhole, IsTextOf, Refuses};
+ghost use Rattle.c5_driver.specs.Outcome.{ReadsWhole, IsTextOf, Refuses, IsRefusedScript};
+ghost use Rattle.c5_rows.specs.declared.writes.Txn.{Txn};
 
 use crate::command::Command;
 use crate::refusal::{Excess, Refusal};
@@ -36,7 +37,7 @@ fn script_in(alloc: Global, bytes: &[u8]) -> Result<Script, Refusal>
     requires { length bytes.now ≤ 4194304 }
     ensures ok { IfOk result (λ script. script_of bytes.now ≡ Ok script) }
     ensures within { IfOk result (λ script. excess_of script ≡ None) }
-    ensures refused { IfErr result (λ refusal. RefusesScript bytes.now refusal) }
+    ensures refused { IfErr result (λ refusal. IsRefusedScript bytes.now refusal) }
 {
     let script = match parse(alloc, bytes) {
         Ok(script) => script,

@@ -1,16 +1,15 @@
 //! What is written to the sink.
 
-ghost use Rattle.std.specs.Prelude.{◌≡◌, ◌⊎◌, ◌≤◌, ℕ, List, [], true, is_ok};
+ghost use Rattle.std.specs.Prelude.{◌≡◌, ◌⊎◌, ◌≤◌, ◌++◌, [], true, is_ok, OnOk};
 ghost use Rattle.std.specs.Io.KnownBytes.{Appends, Keeps};
 ghost use Rattle.c5_io.specs.Causes.{Rose, HasCause};
-ghost use Rattle.c5_driver.specs.Outcome.{PrintsFront, PrintsLine};
+ghost use Rattle.c5_driver.specs.Printed.{PrintsFront, PrintsLine};
 ghost use Rattle.c5_driver.specs.Refusals.{line_of, limit_line, log_ending, place_line, script_ending};
 
 use crate::refusal::{Excess, Refusal};
 use crate::status::Status;
-use c5_frames::LogKind;
+use c5_definitions::{LogKind, ScriptKind};
 use c5_io::{Failed, Sink, write_all};
-use c5_script::ScriptKind;
 use itoa::Buffer;
 
 // Passes on what was written.
@@ -67,7 +66,8 @@ fn write_parts<K: Sink>(
 {
     write_all(sink, front)?;
     write_all(sink, middle)?;
-    write_all(sink, ending)
+    write_all(sink, ending)?;
+    Ok(())
 }
 
 // Writes a line with a number in its middle and flushes. What fails is passed over.

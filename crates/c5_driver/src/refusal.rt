@@ -4,8 +4,7 @@ ghost use Rattle.std.specs.Prelude.{◌≡◌};
 ghost use Rattle.c5_driver.specs.Refusals.{status_of};
 
 use crate::status::Status;
-use c5_frames::LogFault;
-use c5_script::ScriptFault;
+use c5_definitions::{LogFault, ScriptFault};
 
 /// What there are too many of.
 #[derive(Clone, Copy, Debug, PartialEq, Eq)]

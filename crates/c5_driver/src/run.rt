@@ -1,10 +1,10 @@
 //! The top call.
 
-ghost use Rattle.std.specs.Prelude.{◌≡◌, ◌⊎◌, ◌<◌, ◌≤◌, ℕ, List, length, IsSome, IfSome, Some, None, true};
-ghost use Rattle.c5_io.specs.Causes.{Rose};
+ghost use Rattle.std.specs.Prelude.{◌≡◌, ◌⊎◌, ◌<◌, ℕ, List, length, IfSome, IfOk, IfErr, OnOk, None, true};
 ghost use Rattle.c5_driver.specs.Commands.{command_of, input_limit};
-ghost use Rattle.c5_driver.specs.Refusals.{line_of, status_of};
-ghost use Rattle.c5_driver.specs.Outcome.{ReadsWhole, Prints, PrintsSome, PrintsLine, IsFaulty, Tells, SourceFaults, SinkFaults};
+ghost use Rattle.c5_driver.specs.Refusals.{line_of};
+ghost use Rattle.c5_driver.specs.Printed.{PrintsLine};
+ghost use Rattle.c5_driver.specs.Outcome.{ReadsWhole, IsTextOf, Refuses, Prints, PrintsSome, IsByInput, Tells, SourceFaults, SinkFaults};
 
 use crate::apply::apply;
 use crate::command::{Command, command_of};
@@ -49,7 +49,8 @@ pub fn c5<S: Source, K: Sink>(
 
     // TooLong: the input is longer than the command's limit.
     ensures too_long { result ≡ Status.TooLong → IfSome (command_of words.now) (λ command. IfSome (S.left source.old) (λ left. input_limit command < length left)) }
-    ensures line { (result ≡ Status.BadWords → PrintsLine (K.faults sink.old) (K.faults sink.new) (K.held sink.old) (K.held sink.new) (line_of Refusal.BadWords)) }
+    ensures words_line { result ≡ Status.BadWords → PrintsLine (K.faults sink.old) (K.faults sink.new) (K.held sink.old) (K.held sink.new) (line_of Refusal.BadWords) }
+    ensures length_line { result ≡ Status.TooLong → PrintsLine (K.faults sink.old) (K.faults sink.new) (K.held sink.old) (K.held sink.new) (line_of Refusal.TooLong) }
 
     // WriteFault: a front of the text was printed. ReadFault and NoMemory: nothing.
     ensures write_fault { result ≡ Status.WriteFault → IfSome (command_of words.now) (λ command. PrintsSome command (S.left source.old) (S.left source.new) (K.held sink.old) (K.held sink.new)) }

@@ -11,11 +11,8 @@ const ONE_PUT: [u8; 59] = [
     0x00, 0x01, 0x00, 0x00, 0x00, 0x05, 0x45, 0x00, 0x00, 0x00, 0x01,
 ];
 
-// The same table and no transaction.
-const EMPTY: [u8; 21] = [
-    0x43, 0x35, 0x4c, 0x31, 0x01, 0x04, 0x61, 0x63, 0x63, 0x74, 0x01, 0x01, 0x00, 0x00, 0x00, 0x05,
-    0x45, 0x00, 0x00, 0x00, 0x00,
-];
+// The script whose log that is.
+const SCRIPT: &[u8] = b"table acct int\ntxn\nput acct a 10\nend\n";
 
 #[derive(Clone, Copy)]
 struct Run<'a> {
@@ -25,7 +22,7 @@ struct Run<'a> {
     reads: &'a [u64],
     writes: &'a [u64],
     status: Status,
-    held: &'a str,
+    held: &'a [u8],
 }
 
 fn check(alloc: Global, run: &Run<'_>) -> Result<bool, Fail> {
@@ -36,96 +33,88 @@ fn check(alloc: Global, run: &Run<'_>) -> Result<bool, Fail> {
     let mut source = MemorySource::new(run.input.to_vec(alloc)?, 7, run.reads.to_vec(alloc)?);
     let mut sink = MemorySink::new(alloc, 100, 4, run.writes.to_vec(alloc)?)?;
     let status = c5(alloc, &words, &mut source, &mut sink);
-    Ok(status == run.status && sink.held() == run.held.as_bytes())
+    Ok(status == run.status && sink.held() == run.held)
+}
+
+const APPLY: &[&str] = &["apply"];
+const PRIMARY: &[&str] = &["primary"];
+const NONE: &[u64] = &[];
+
+fn run<'a>(
+    words: &'a [&'a str],
+    input: &'a [u8],
+    reads: &'a [u64],
+    writes: &'a [u64],
+    status: Status,
+    held: &'a [u8],
+) -> Run<'a> {
+    Run {
+        words,
+        input,
+        reads,
+        writes,
+        status,
+        held,
+    }
 }
 
 #[test]
-fn each_status_has_its_number_and_its_text(rt: HostRuntime) -> Result<(), Fail> {
-    let rows = "acct a 10\nrows 1\n";
-    let apply = ["apply"].as_slice();
-    let none: &[u64] = &[];
+fn apply_ends_with_each_status(rt: HostRuntime) -> Result<(), Fail> {
+    let rows = b"acct a 10\nrows 1\n".as_slice();
     let runs = [
-        Run {
-            words: apply,
-            input: &ONE_PUT,
-            reads: none,
-            writes: none,
-            status: Status::Ok,
-            held: rows,
-        },
-        Run {
-            words: apply,
-            input: &EMPTY,
-            reads: none,
-            writes: none,
-            status: Status::Ok,
-            held: "rows 0\n",
-        },
+        run(APPLY, &ONE_PUT, NONE, NONE, Status::Ok, rows),
         // The second write fails, and then the flush after five writes.
-        Run {
-            words: apply,
-            input: &ONE_PUT,
-            reads: none,
-            writes: &[2],
-            status: Status::WriteFault,
-            held: "acct",
-        },
-        Run {
-            words: apply,
-            input: &ONE_PUT,
-            reads: none,
-            writes: &[6],
-            status: Status::WriteFault,
-            held: rows,
-        },
-        Run {
-            words: apply,
-            input: &ONE_PUT,
-            reads: &[1],
-            writes: none,
-            status: Status::ReadFault,
-            held: "",
-        },
-        Run {
-            words: apply,
-            input: &ONE_PUT[..58],
-            reads: none,
-            writes: none,
-            status: Status::NotYet,
-            held: "not yet\n",
-        },
-        Run {
-            words: apply,
-            input: &ONE_PUT[..58],
-            reads: none,
-            writes: &[2],
-            status: Status::NotYet,
-            held: "not ",
-        },
-        Run {
-            words: &["frob"],
-            input: &ONE_PUT,
-            reads: &[1],
-            writes: none,
-            status: Status::BadWords,
-            held: "bad words\n",
-        },
-        Run {
-            words: &[],
-            input: &ONE_PUT,
-            reads: &[1],
-            writes: none,
-            status: Status::BadWords,
-            held: "bad words\n",
-        },
-        Run {
-            words: &["apply", "apply"],
-            input: &ONE_PUT,
-            reads: &[1],
-            writes: none,
-            status: Status::BadWords,
-            held: "bad words\n",
-        },
+        run(APPLY, &ONE_PUT, NONE, &[2], Status::WriteFault, b"acct"),
+        run(APPLY, &ONE_PUT, NONE, &[6], Status::WriteFault, rows),
+        run(APPLY, &ONE_PUT, &[1], NONE, Status::ReadFault, b""),
+        run(
+            APPLY,
+            &ONE_PUT[..58],
+            NONE,
+            NONE,
+            Status::BadLog,
+            b"bad log at 50 cut\n",
+        ),
+        run(APPLY, &ONE_PUT[..58], NONE, &[2], Status::BadLog, b"bad "),
+        run(
+            &["frob"],
+            &ONE_PUT,
+            &[1],
+            NONE,
+            Status::BadWords,
+            b"bad words\n",
+        ),
+        run(&[], &ONE_PUT, &[1], NONE, Status::BadWords, b"bad words\n"),
+    ];
+    for (number, run) in runs.iter().enumerate() {
+        assert!(rt; check(rt.alloc(), run)?, "run {number}");
+    }
+    Ok(())
+}
+
+#[test]
+fn primary_ends_with_each_status(rt: HostRuntime) -> Result<(), Fail> {
+    let unclosed = b"bad script line 4 unclosed\n".as_slice();
+    let runs = [
+        run(PRIMARY, SCRIPT, NONE, NONE, Status::Ok, &ONE_PUT),
+        run(PRIMARY, SCRIPT, NONE, &[1], Status::WriteFault, b""),
+        run(PRIMARY, SCRIPT, &[2], NONE, Status::ReadFault, b""),
+        run(
+            PRIMARY,
+            &SCRIPT[..33],
+            NONE,
+            NONE,
+            Status::BadScript,
+            unclosed,
+        ),
+        run(
+            &["primary", "apply"],
+            SCRIPT,
+            &[1],
+            NONE,
+            Status::BadWords,
+            b"bad words\n",
+        ),
     ];
     for (number, run) in runs.iter().enumerate() {
         assert!(rt; check(rt.alloc(), run)?, "run {number}");
@@ -138,11 +127,13 @@ fn statuses_end_the_program_with_their_numbers(rt: HostRuntime) {
     for (status, number) in [
         (Status::Ok, 0),
         (Status::BadWords, 2),
+        (Status::BadScript, 3),
+        (Status::BadLog, 4),
         (Status::ReadFault, 5),
         (Status::WriteFault, 6),
         (Status::NoMemory, 7),
         (Status::TooLong, 8),
-        (Status::NotYet, 10),
+        (Status::Limit, 9),
     ] {
         assert_eq!(rt; status.number(), number);
     }

@@ -23,7 +23,7 @@ use Rattle.c5_rows.specs.declared.tables.TableDef.{TableDef}
 use Rattle.c5_rows.specs.declared.rows.RowEntry.{RowEntry}
 use Rattle.c5_definitions.specs.Lawful.{IsLawfulCell}
 use Rattle.c5_definitions.specs.Texts.{cell_text, name_in}
-use Rattle.c5_text.specs.Lines.{line_text, IsRowOf}
+use Rattle.c5_definitions.specs.Texts.{line_text, IsRowOf}
 use Rattle.c5_text.specs.Reading.{◌>>=◌, or_none, before, behind, int_of, int_at, text_at, cell_at, cells_at, row_at, entry_at, line_at}
 use Rattle.c5_text.proofs.Steps.{some_is, kept, both, bind_some, ne-eqb}
 use Rattle.c5_text.proofs.Numbers.{int_of-sound, int_of-again}

@@ -4,7 +4,7 @@ ghost use Rattle.std.specs.Prelude.{◌≡◌, ◌≤◌, length, ℕ, Some, IfS
 ghost use Rattle.c5_rows.specs.Tables.{IsSchema, table_of};
 ghost use Rattle.c5_rows.specs.Bytes.{IsTableName};
 ghost use Rattle.c5_rows.specs.declared.rows.RowEntry.{RowEntry};
-ghost use Rattle.c5_text.specs.Lines.{line_text, IsRowOf};
+ghost use Rattle.c5_definitions.specs.Texts.{line_text, IsRowOf};
 ghost use Rattle.c5_text.specs.Reading.{Finds, before, behind, int_of, int_at, text_at, cell_at, row_at, entry_at, line_at};
 
 use c5_rows::{Cell, CellType, Key, Row, RowEntry, RowName, Schema, TableDef, TextCell};

@@ -1,17 +1,17 @@
-use Rattle.std.proofs.Common.{sym, subst, ap}
-use Rattle.c5_driver.specs.Outcome.{PrintsLine}
-use Rattle.c5_driver.proofs.Fronts.{appends_kept, whole_is_front, part_is_front}
+use Rattle.std.proofs.Common.{List, ℕ, subst}
+use Rattle.std.specs.Prelude.{codes}
+use Rattle.c5_driver.specs.Printed.{PrintsLine}
+use Rattle.c5_driver.specs.Refusals.{place_line}
 use Rattle.c5_driver.proofs.printing.refuse.Goals as goal
 
-pub returns-in-Ok-clause-line : goal.returns-in-Ok-clause-line
-returns-in-Ok-clause-line g c =
-    let held = g.K.Sink.held in
-    let grew = appends_kept (held c.args.sink.now) (held c.write_all.new.sink) (held c.finish.new.sink) c.line_of-line.result.now c.in-Ok.ensures.ok c.finish.ensures.kept in
-    subst (PrintsLine (g.K.Sink.faults c.args.sink.now) (g.K.Sink.faults c.finish.new.sink) (held c.args.sink.now) (held c.finish.new.sink)) c.line_of-line.ensures
-    (record { front = whole_is_front _ _ _ grew; whole = λ _. grew })
+pub returns-in-BadScript-clause-line : goal.returns-in-BadScript-clause-line
+returns-in-BadScript-clause-line g c =
+    let sink = g.K.Sink in
+    rw c.in-BadScript.is (subst (λ (ending : List ℕ). PrintsLine (sink.faults c.args.sink.now) (sink.faults c.tell_place.new.sink) (sink.held c.args.sink.now) (sink.held c.tell_place.new.sink) (place_line (codes "bad script line ") c.in-BadScript.fault.line ending))
+    c.ending_of_script.ensures c.tell_place.ensures.line)
 
-pub returns-in-Err-clause-line : goal.returns-in-Err-clause-line
-returns-in-Err-clause-line g c =
-    let held = g.K.Sink.held in
-    subst (PrintsLine (g.K.Sink.faults c.args.sink.now) (g.K.Sink.faults c.write_all.new.sink) (held c.args.sink.now) (held c.write_all.new.sink)) c.line_of-line.ensures
-    (record { front = part_is_front _ _ _ c.in-Err.ensures.err; whole = λ none. absurd (none c.in-Err.ensures.cause.failed) })
+pub returns-in-BadLog-clause-line : goal.returns-in-BadLog-clause-line
+returns-in-BadLog-clause-line g c =
+    let sink = g.K.Sink in
+    rw c.in-BadLog.is (subst (λ (ending : List ℕ). PrintsLine (sink.faults c.args.sink.now) (sink.faults c.tell_place-in-BadLog.new.sink) (sink.held c.args.sink.now) (sink.held c.tell_place-in-BadLog.new.sink) (place_line (codes "bad log at ") c.in-BadLog.fault.offset ending))
+    c.ending_of_log.ensures c.tell_place-in-BadLog.ensures.line)
