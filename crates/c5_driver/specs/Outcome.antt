@@ -105,8 +105,24 @@ pub record Tells (command : Command) (status : Status) (left_old left_new : Opti
   pub input : List ℕ
   pub read : ReadsWhole command left_old left_new input
   pub faulty : IsFaulty command input refusal
-  pub status : status_of refusal ≡ status
+  pub ends : status_of refusal ≡ status
   pub printed : PrintsLine faults_old faults_new held_old held_new (line_of refusal)
+
+-- the input is within the command's limit, and is not refused by what it is
+pub record IsAccepted (command : Command) (input : List ℕ) : Type 0 where
+  pub within : length input ≤ input_limit command
+  pub clean : (refusal : Refusal) → IsFaulty command input refusal → ⊥
+
+-- the run ended well, or memory was refused
+abbrev pub IsDone : Status → Type 0
+IsDone statuses.Ok = Unit {0}
+IsDone statuses.NoMemory = Unit {0}
+IsDone status = ⊥
+
+-- where both ends told no fault, a run over an accepted input is done
+abbrev pub Completes : Command → Status → Option (List ℕ) → ℕ → ℕ → ℕ → ℕ → Type 0
+Completes command status left source_old source_new sink_old sink_new =
+    IfSome left (λ input. IsAccepted command input → ¬ Rose source_old source_new → ¬ Rose sink_old sink_new → IsDone status)
 
 -- ---- counts of faults
 

@@ -1,10 +1,10 @@
 //! The top call.
 
-ghost use Rattle.std.specs.Prelude.{◌≡◌, ◌⊎◌, ◌<◌, ℕ, List, length, IfSome, IfOk, IfErr, OnOk, None, true};
+ghost use Rattle.std.specs.Prelude.{◌≡◌, ◌≢◌, ◌⊎◌, ◌<◌, ℕ, List, length, IfSome, IfOk, IfErr, OnOk, None, true};
 ghost use Rattle.c5_driver.specs.Commands.{command_of, input_limit};
 ghost use Rattle.c5_driver.specs.Refusals.{line_of};
 ghost use Rattle.c5_driver.specs.Printed.{PrintsLine};
-ghost use Rattle.c5_driver.specs.Outcome.{ReadsWhole, IsTextOf, Refuses, Prints, PrintsSome, IsByInput, Tells, SourceFaults, SinkFaults};
+ghost use Rattle.c5_driver.specs.Outcome.{ReadsWhole, IsTextOf, Refuses, Prints, PrintsSome, IsByInput, Tells, Completes, SourceFaults, SinkFaults};
 
 use crate::apply::apply;
 use crate::command::{Command, command_of};
@@ -24,6 +24,29 @@ fn text_of<S: Source>(alloc: Global, command: Command, source: &mut S) -> Result
     match command {
         Command::Apply => apply(alloc, source),
         Command::Primary => primary(alloc, source),
+    }
+}
+
+// Runs a command.
+fn run<S: Source, K: Sink>(alloc: Global, command: Command, source: &mut S, sink: &mut K) -> Status
+    ensures ok { result ≡ Status.Ok → Prints command (S.left source.old) (S.left source.new) (K.held sink.old) (K.held sink.new) }
+    ensures flushed { result ≡ Status.Ok → K.flushed sink.new ≡ true }
+    ensures known { result ≢ Status.BadWords }
+    ensures faulty { IsByInput result → Tells command result (S.left source.old) (S.left source.new) (K.faults sink.old) (K.faults sink.new) (K.held sink.old) (K.held sink.new) }
+    ensures too_long { result ≡ Status.TooLong → IfSome (S.left source.old) (λ left. input_limit command < length left) }
+    ensures length_line { result ≡ Status.TooLong → PrintsLine (K.faults sink.old) (K.faults sink.new) (K.held sink.old) (K.held sink.new) (line_of Refusal.TooLong) }
+    ensures write_fault { result ≡ Status.WriteFault → PrintsSome command (S.left source.old) (S.left source.new) (K.held sink.old) (K.held sink.new) }
+    ensures unwritten { (result ≡ Status.ReadFault) ⊎ (result ≡ Status.NoMemory) → sink.new ≡ sink.old }
+    ensures source_faults { SourceFaults result (S.faults source.old) (S.faults source.new) }
+    ensures sink_faults { SinkFaults result (K.faults sink.old) (K.faults sink.new) }
+    ensures complete { Completes command result (S.left source.old) (S.faults source.old) (S.faults source.new) (K.faults sink.old) (K.faults sink.new) }
+{
+    match text_of(alloc, command, source) {
+        Ok(text) => print(sink, &text),
+        Err(refusal) => {
+            refuse(sink, refusal);
+            refusal.status()
+        }
     }
 }
 
@@ -56,6 +79,9 @@ pub fn c5<S: Source, K: Sink>(
     ensures write_fault { result ≡ Status.WriteFault → IfSome (command_of words.now) (λ command. PrintsSome command (S.left source.old) (S.left source.new) (K.held sink.old) (K.held sink.new)) }
     ensures unwritten { (result ≡ Status.ReadFault) ⊎ (result ≡ Status.NoMemory) → sink.new ≡ sink.old }
 
+    // An input that is within the limit and not faulty is done, where neither end tells a fault.
+    ensures complete { IfSome (command_of words.now) (λ command. Completes command result (S.left source.old) (S.faults source.old) (S.faults source.new) (K.faults sink.old) (K.faults sink.new)) }
+
     // ReadFault and WriteFault come only where that end's count rose; no other status has a read that failed.
     ensures source_faults { SourceFaults result (S.faults source.old) (S.faults source.new) }
     ensures sink_faults { SinkFaults result (K.faults sink.old) (K.faults sink.new) }
@@ -64,11 +90,5 @@ pub fn c5<S: Source, K: Sink>(
         refuse(sink, Refusal::BadWords);
         return Status::BadWords;
     };
-    match text_of(alloc, command, source) {
-        Ok(text) => print(sink, &text),
-        Err(refusal) => {
-            refuse(sink, refusal);
-            refusal.status()
-        }
-    }
+    run(alloc, command, source, sink)
 }
