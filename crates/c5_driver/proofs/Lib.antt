@@ -1,3 +1,4 @@
 pub mod Fronts
 pub mod OneWord
-pub mod Ends
+pub mod Feeding
+pub mod Writing

@@ -7,3 +7,4 @@ pub mod Refusals
 pub mod Printed
 pub mod Excesses
 pub mod Outcome
+pub mod Fed

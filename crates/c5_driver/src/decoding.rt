@@ -1,10 +1,11 @@
 //! A log that is read from a source.
 
-ghost use Rattle.std.specs.Prelude.{◌≡◌, ◌≤◌, ◌<◌, ◌+◌, ◌-◌, ◌++◌, ℕ, List, length, take, IfOk, IfErr, IfSome, OnOk, OnErr};
+ghost use Rattle.std.specs.Prelude.{◌≡◌, ◌≤◌, ◌<◌, ◌+◌, ◌++◌, [], length, take, true, false, IfOk, IfErr, OnOk, OnErr};
 ghost use Rattle.std.specs.Io.KnownBytes.{Consumes, IsAtEnd, Keeps};
 ghost use Rattle.c5_io.specs.Causes.{HasCause};
 ghost use Rattle.c5_definitions.specs.Lawful.{Spells};
 ghost use Rattle.c5_driver.specs.Outcome.{ReadsWhole, Refuses};
+ghost use Rattle.c5_driver.specs.Fed.{Fed, StopsFeeding};
 
 use crate::command::Command;
 use crate::refusal::Refusal;
@@ -49,31 +50,64 @@ fn feed(decoder: &mut Decoder, piece: &[u8]) -> Result<(), Refusal>
     }
 }
 
+// Feeds what one read gives, and tells whether the source has ended.
+fn feed_next<S: Source>(
+    source: &mut S,
+    decoder: &mut Decoder,
+    piece: &mut [u8],
+) -> Result<bool, Refusal>
+    requires within { length decoder.old ≤ 88080384 }
+    requires piece { 1 ≤ length piece.old }
+    ensures within { length decoder.new ≤ 88080384 }
+    ensures fed { OnOk result (Fed (S.left source.old) (S.left source.new) decoder.old decoder.new) }
+    ensures end { IfOk result (λ ended. ended ≡ true → IsAtEnd (S.left source.new)) }
+    ensures more { IfOk result (λ ended. ended ≡ false → length decoder.old < length decoder.new) }
+    ensures faults { OnOk result (S.faults source.new ≡ S.faults source.old) }
+    ensures refused { IfErr result (λ refusal. StopsFeeding refusal (S.faults source.old) (S.faults source.new) (S.left source.old) (S.left source.new) decoder.old) }
+{
+    let room = (LIMIT - decoder.fed()) as usize;
+    let count = match read_piece(source, piece, room + 1) {
+        Ok(count) => count,
+        Err(Failed) => return Err(Refusal::ReadFault),
+    };
+    if count > room {
+        return Err(Refusal::TooLong);
+    }
+    feed(decoder, &piece[..count])?;
+    Ok(count == 0)
+}
+
+fn feed_all<S: Source>(
+    source: &mut S,
+    decoder: &mut Decoder,
+    piece: &mut [u8],
+) -> Result<(), Refusal>
+    requires empty { decoder.old ≡ [] }
+    requires piece { 1 ≤ length piece.old }
+    ensures ok { OnOk result (ReadsWhole Command.Apply (S.left source.old) (S.left source.new) decoder.new) }
+    ensures faults { OnOk result (S.faults source.new ≡ S.faults source.old) }
+    ensures refused { IfErr result (λ refusal. Refuses Command.Apply refusal (S.faults source.old) (S.faults source.new) (S.left source.old) (S.left source.new)) }
+{
+    loop {
+        if feed_next(source, decoder, piece)? {
+            return Ok(());
+        }
+    }
+}
+
 // A decoder that was fed all that the source had left.
 fn fed_whole<S: Source>(alloc: Global, source: &mut S) -> Result<Decoder, Refusal>
     ensures ok { IfOk result (λ decoder. ReadsWhole Command.Apply (S.left source.old) (S.left source.new) decoder) }
     ensures faults { OnOk result (S.faults source.new ≡ S.faults source.old) }
     ensures refused { IfErr result (λ refusal. Refuses Command.Apply refusal (S.faults source.old) (S.faults source.new) (S.left source.old) (S.left source.new)) }
 {
-    let mut decoder = Decoder::new(alloc);
     let mut piece = match vec![in alloc; 0; PIECE] {
         Ok(piece) => piece,
         Err(_) => return Err(Refusal::NoMemory),
     };
-    loop {
-        let room = LIMIT - decoder.fed();
-        let count = match read_piece(source, piece.as_mut_slice(), room as usize + 1) {
-            Ok(count) => count,
-            Err(Failed) => return Err(Refusal::ReadFault),
-        };
-        if count == 0 {
-            return Ok(decoder);
-        }
-        if count > room as usize {
-            return Err(Refusal::TooLong);
-        }
-        feed(&mut decoder, &piece[..count])?;
-    }
+    let mut decoder = Decoder::new(alloc);
+    feed_all(source, &mut decoder, piece.as_mut_slice())?;
+    Ok(decoder)
 }
 
 /// The log that the source gives, read to its end, or why there is none.

@@ -44,7 +44,7 @@ fn script_in(alloc: Global, bytes: &[u8]) -> Result<Script, Refusal>
         Err(ParseFault::Bad(fault)) => return Err(Refusal::BadScript(fault)),
         Err(ParseFault::NoMemory) => return Err(Refusal::NoMemory),
     };
-    match script.check_limits() {
+    match script.check_limits(alloc) {
         Ok(()) => Ok(script),
         Err(OverFault::Transactions) => Err(Refusal::Limit(Excess::Transactions)),
         Err(OverFault::Writes) => Err(Refusal::Limit(Excess::Writes)),
