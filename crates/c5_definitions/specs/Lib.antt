@@ -12,6 +12,10 @@ pub mod Frames
 pub mod Items
 pub mod ScriptParts
 pub mod Words
+pub mod ScriptSoFar
+pub mod Numerals
+pub mod Places
+pub mod Statements
 pub mod Lawful
 pub mod Texts
 pub mod Worked
