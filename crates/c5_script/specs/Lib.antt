@@ -1,0 +1,4 @@
+pub mod Words
+pub mod Partial
+pub mod Taking
+pub mod Front

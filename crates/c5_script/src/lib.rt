@@ -1,9 +1,15 @@
 //! Scripts: tables, bodies of transactions, read blocks and a schedule.
 #![tactic(auto)]
 
+mod block;
 mod blocks;
 mod bodies;
+mod fault;
+mod numerals;
+mod partial;
+mod places;
 mod script;
+mod word;
 
 pub use blocks::ReadBlock;
 pub use bodies::Body;
