@@ -5,6 +5,7 @@ mod block;
 mod blocks;
 mod bodies;
 mod fault;
+mod lists;
 mod numerals;
 mod partial;
 mod places;
