@@ -10,6 +10,7 @@ mod numerals;
 mod partial;
 mod places;
 mod script;
+mod statements;
 mod word;
 
 pub use blocks::ReadBlock;

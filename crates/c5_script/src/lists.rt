@@ -1,8 +1,8 @@
 //! Words that stand one behind the other, tested from left to right.
 
-ghost use Rattle.std.specs.Prelude.{◌≡◌, ◌≤◌, length};
+ghost use Rattle.std.specs.Prelude.{◌≡◌, ◌≤◌, ◌<◌, ◌∷◌, length};
 ghost use Rattle.c5_definitions.specs.Places.{type_in, key_in, each_in, row_in};
-ghost use Rattle.c5_script.specs.Words.{words_of};
+ghost use Rattle.c5_script.specs.Words.{word_of, words_of};
 
 use crate::places::{cell, column_type, key};
 use crate::word::Word;
@@ -27,14 +27,13 @@ pub(crate) fn column_types(words: &[Word]) -> Result<Columns, ScriptKind>
 }
 
 /// The keys of a sum.
-pub(crate) fn keys(words: &[Word]) -> Result<Keys, ScriptKind>
-    requires some { 1 ≤ length words.now }
-    requires at_most_sixteen { length words.now ≤ 16 }
-    ensures { result ≡ each_in key_in (words_of words.now) }
+pub(crate) fn keys(first: Word, others: &[Word]) -> Result<Keys, ScriptKind>
+    requires { length others.now < 16 }
+    ensures { result ≡ each_in key_in (word_of first.entry ∷ words_of others.now) }
 {
-    let first = key(words[0])?;
-    let mut keys = Keys::one(first);
-    for word in &words[1..] {
+    let first_key = key(first)?;
+    let mut keys = Keys::one(first_key);
+    for word in others {
         let next = key(*word)?;
         keys.push(next);
     }
