@@ -20,13 +20,15 @@ use Rattle.c5_definitions.specs.Places.{new_name_in, type_in, table_in, key_in, 
 -- ---- outside blocks
 
 -- `table NAME TYPE ..`
+unfoldable pub table_of : List TableDef → Word → List Word → Result TableDef ScriptKind
+table_of tables word types = do
+  name ← new_name_in tables word
+  columns ← each_in type_in types
+  Ok (record { name = name; columns = columns })
+
 unfoldable pub table_words : List TableDef → List Word → Result TableDef ScriptKind
-table_words tables [] = Err kinds.Count
-table_words tables (name ∷ []) = Err kinds.Count
-table_words tables (name ∷ type ∷ types) = do
-  new ← new_name_in tables name
-  columns ← each_in type_in (type ∷ types)
-  Ok (record { name = new; columns = columns })
+table_words tables (name ∷ type ∷ types) = table_of tables name (type ∷ types)
+table_words tables _ = Err kinds.Count
 
 -- at most 16 tables, and at most 8 types
 unfoldable pub table_line : List TableDef → List Word → Result TableDef ScriptKind

@@ -1,3 +1,4 @@
 pub mod ScriptLemmas
 pub mod Digits
 pub mod Each
+pub mod Shapes

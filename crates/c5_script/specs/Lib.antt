@@ -2,3 +2,4 @@ pub mod Words
 pub mod Partial
 pub mod Taking
 pub mod Front
+pub mod Forms

@@ -1,7 +1,9 @@
 //! The statements of a transaction.
 
 ghost use Rattle.std.specs.Prelude.{◌≡◌, ◌≤◌, ◌∷◌, [], length};
-ghost use Rattle.c5_definitions.specs.Statements.{put_of, put_words, del_words, need_words, add_words, copy_words, statement_line};
+ghost use Rattle.c5_definitions.specs.Statements.{put_of, put_words, del_words, need_words, add_words, copy_words, form_of, statement_words, statement_line};
+ghost use Rattle.c5_script.specs.Forms.{form_held};
+ghost use Rattle.c5_script.specs.Taking.{Gives};
 ghost use Rattle.c5_script.specs.Words.{word_of, words_of};
 
 use crate::lists::row;
@@ -140,4 +142,65 @@ fn copy(tables: &[TableDef], words: &[Word]) -> Result<Statement, ScriptKind>
         [table, from, to] => copy_of(tables, *table, *from, *to),
         _ => Err(ScriptKind::Count),
     }
+}
+
+// Which statement a line is.
+#[derive(Clone, Copy, Debug, PartialEq, Eq)]
+enum Form {
+    Put,
+    Del,
+    Need,
+    Add,
+    Copy,
+}
+
+#[tactic(auto, unfolding(c5_definitions::specs::Statements::form_of))]
+fn form_of(first: &[u8]) -> Result<Form, ScriptKind>
+    ensures { Gives form_held result (form_of first.now) }
+{
+    if first == b"put".as_slice() {
+        Ok(Form::Put)
+    } else if first == b"del".as_slice() {
+        Ok(Form::Del)
+    } else if first == b"need".as_slice() {
+        Ok(Form::Need)
+    } else if first == b"add".as_slice() {
+        Ok(Form::Add)
+    } else if first == b"copy".as_slice() {
+        Ok(Form::Copy)
+    } else {
+        Err(ScriptKind::Word)
+    }
+}
+
+#[tactic(auto, unfolding(c5_definitions::specs::Statements::statement_words))]
+fn statement_of(form: Form, tables: &[TableDef], words: &[Word]) -> Result<Statement, ScriptKind>
+    requires { length tables.now ≤ 16 }
+    ensures { result ≡ statement_words (form_held form) tables.now (words_of words.now) }
+{
+    match form {
+        Form::Put => put(tables, words),
+        Form::Del => del(tables, words),
+        Form::Need => need(tables, words),
+        Form::Add => add(tables, words),
+        Form::Copy => copy(tables, words),
+    }
+}
+
+/// The statement of a line that stands behind `count` others in its transaction.
+#[tactic(auto, unfolding(c5_definitions::specs::Statements::statement_line))]
+pub(crate) fn statement(
+    tables: &[TableDef],
+    count: usize,
+    first: &[u8],
+    words: &[Word],
+) -> Result<Statement, ScriptKind>
+    requires { length tables.now ≤ 16 }
+    ensures { result ≡ statement_line tables.now count first.now (words_of words.now) }
+{
+    let form = form_of(first)?;
+    if count >= MOST_STATEMENTS {
+        return Err(ScriptKind::Limit);
+    }
+    statement_of(form, tables, words)
 }
