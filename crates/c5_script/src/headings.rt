@@ -1,15 +1,18 @@
 //! Lines outside blocks.
 
-ghost use Rattle.std.specs.Prelude.{◌≡◌, ◌≤◌, ◌<◌, length};
-ghost use Rattle.c5_definitions.specs.Statements.{table_of, table_words, table_line, txn_words, read_words, read_line};
-ghost use Rattle.c5_script.specs.Partial.{block_of};
-ghost use Rattle.c5_script.specs.Taking.{Gives};
+ghost use Rattle.std.specs.Prelude.{◌≡◌, ◌≤◌, ◌<◌, [], length, IfOk, OnOk};
+ghost use Rattle.c5_definitions.specs.ScriptSoFar.{in_read};
+ghost use Rattle.c5_definitions.specs.Statements.{table_of, table_words, table_line, txn_words, read_words, read_line, turns_words, turns_line};
+ghost use Rattle.c5_script.specs.Partial.{block_of, with_turns};
+ghost use Rattle.c5_script.specs.Taking.{Gives, StepsTo};
 ghost use Rattle.c5_script.specs.Words.{word_of, words_of};
 
 use crate::block::OpenBlock;
 use crate::bodies::Body;
+use crate::fault::LineError;
 use crate::lists::column_types;
-use crate::places::{new_name, session};
+use crate::places::{new_name, session, turn};
+use crate::script::Script;
 use crate::word::Word;
 use c5_definitions::ScriptKind;
 use c5_rows::TableDef;
@@ -72,25 +75,54 @@ pub(crate) fn new_txn(alloc: Global, words: &[Word]) -> Result<OpenBlock, Script
 }
 
 #[tactic(auto, unfolding(c5_definitions::specs::Statements::read_words))]
-fn read_of(words: &[Word]) -> Result<OpenBlock, ScriptKind>
-    ensures { Gives block_of result (read_words (words_of words.now)) }
+fn read_of(words: &[Word]) -> Result<u32, ScriptKind>
+    ensures read { Gives (λ session. in_read session []) result (read_words (words_of words.now)) }
+    ensures session { IfOk result (λ session. (1 ≤ session) × (session ≤ 16)) }
 {
     match words {
-        [word] => {
-            let session = session(*word)?;
-            Ok(OpenBlock::Opened(session))
-        }
+        [word] => session(*word),
         _ => Err(ScriptKind::Count),
     }
 }
 
-/// The read block that a line opens behind `count` others.
+/// The session of a read block that a line opens behind `count` others.
 #[tactic(auto, unfolding(c5_definitions::specs::Statements::read_line))]
-pub(crate) fn new_read(count: usize, words: &[Word]) -> Result<OpenBlock, ScriptKind>
-    ensures { Gives block_of result (read_line count (words_of words.now)) }
+pub(crate) fn new_read(count: usize, words: &[Word]) -> Result<u32, ScriptKind>
+    ensures read { Gives (λ session. in_read session []) result (read_line count (words_of words.now)) }
+    ensures session { IfOk result (λ session. (1 ≤ session) × (session ≤ 16)) }
+    ensures room { OnOk result (count < 256) }
 {
     if count >= MOST_READS {
         return Err(ScriptKind::Limit);
     }
     read_of(words)
+}
+
+/// How many turn words a script has at most.
+const MOST_TURNS: usize = 65536;
+
+// Adds the words of a line to the schedule.
+#[tactic(auto, unfolding(c5_definitions::specs::Statements::turns_words))]
+fn push_turns(script: &mut Script, words: &[Word]) -> Result<(), LineError>
+    ensures { StepsTo (λ _. script.new) result (with_turns script.old (turns_words (words_of words.now))) }
+{
+    if words.is_empty() {
+        return Err(LineError::Fault(ScriptKind::Count));
+    }
+    for word in words {
+        let turn = turn(*word)?;
+        script.push_turn(turn)?;
+    }
+    Ok(())
+}
+
+/// Adds the words of a line to the schedule.
+#[tactic(auto, unfolding(c5_definitions::specs::Statements::turns_line))]
+pub(crate) fn add_turns(script: &mut Script, words: &[Word]) -> Result<(), LineError>
+    ensures { StepsTo (λ _. script.new) result (with_turns script.old (turns_line (length script.old.turns) (words_of words.now))) }
+{
+    if script.turns().len() + words.len() > MOST_TURNS {
+        return Err(LineError::Fault(ScriptKind::Limit));
+    }
+    push_turns(script, words)
 }

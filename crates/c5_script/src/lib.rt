@@ -6,6 +6,7 @@ mod blocks;
 mod bodies;
 mod fault;
 mod headings;
+mod inside;
 mod lists;
 mod numerals;
 mod partial;

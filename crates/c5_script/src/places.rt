@@ -1,6 +1,6 @@
 //! The test of a word by its place on the line.
 
-ghost use Rattle.std.specs.Prelude.{◌≡◌, ◌≤◌, length};
+ghost use Rattle.std.specs.Prelude.{◌≡◌, ◌≤◌, length, IfOk};
 ghost use Rattle.c5_definitions.specs.Numerals.{turn_number_of};
 ghost use Rattle.c5_rows.specs.Tables.{IsSchema, table_of};
 ghost use Rattle.c5_definitions.specs.Places.{new_name_in, type_in, table_in, key_in, row_name_in, number_in, cell_in, found_or, columns_of, column_in, rel_in, session_in, turn_in, int_column_of};
@@ -213,7 +213,8 @@ pub(crate) fn rel(word: Word) -> Result<Rel, ScriptKind>
 /// A session.
 #[tactic(auto, unfolding(c5_definitions::specs::Places::session_in))]
 pub(crate) fn session(word: Word) -> Result<u32, ScriptKind>
-    ensures { result ≡ session_in (word_of word.entry) }
+    ensures value { result ≡ session_in (word_of word.entry) }
+    ensures range { IfOk result (λ session. (1 ≤ session) × (session ≤ 16)) }
 {
     let number = number(word)?;
     if number >= 1 && number <= 16 {
