@@ -2,6 +2,7 @@
 
 ghost use Rattle.std.specs.Prelude.{◌≡◌, ◌≤◌, ◌<◌, [], length, IfOk, OnOk};
 ghost use Rattle.c5_definitions.specs.ScriptSoFar.{in_read};
+ghost use Rattle.c5_definitions.specs.Places.{turn_in, each_in};
 ghost use Rattle.c5_definitions.specs.Statements.{table_of, table_words, table_line, txn_words, read_words, read_line, turns_words, turns_line};
 ghost use Rattle.c5_script.specs.Partial.{block_of, with_turns};
 ghost use Rattle.c5_script.specs.Taking.{Gives, StepsTo};
@@ -101,19 +102,24 @@ pub(crate) fn new_read(count: usize, words: &[Word]) -> Result<u32, ScriptKind>
 /// How many turn words a script has at most.
 const MOST_TURNS: usize = 65536;
 
-// Adds the words of a line to the schedule.
-#[tactic(auto, unfolding(c5_definitions::specs::Statements::turns_words))]
 fn push_turns(script: &mut Script, words: &[Word]) -> Result<(), LineError>
-    ensures { StepsTo (λ _. script.new) result (with_turns script.old (turns_words (words_of words.now))) }
+    ensures { StepsTo (λ _. script.new) result (with_turns script.old (each_in turn_in (words_of words.now))) }
 {
-    if words.is_empty() {
-        return Err(LineError::Fault(ScriptKind::Count));
-    }
     for word in words {
         let turn = turn(*word)?;
         script.push_turn(turn)?;
     }
     Ok(())
+}
+
+#[tactic(auto, unfolding(c5_definitions::specs::Statements::turns_words))]
+fn turns_in(script: &mut Script, words: &[Word]) -> Result<(), LineError>
+    ensures { StepsTo (λ _. script.new) result (with_turns script.old (turns_words (words_of words.now))) }
+{
+    match words {
+        [] => Err(LineError::Fault(ScriptKind::Count)),
+        [_, ..] => push_turns(script, words),
+    }
 }
 
 /// Adds the words of a line to the schedule.
@@ -124,5 +130,5 @@ pub(crate) fn add_turns(script: &mut Script, words: &[Word]) -> Result<(), LineE
     if script.turns().len() + words.len() > MOST_TURNS {
         return Err(LineError::Fault(ScriptKind::Limit));
     }
-    push_turns(script, words)
+    turns_in(script, words)
 }
