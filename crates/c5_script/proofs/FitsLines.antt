@@ -1,6 +1,6 @@
 -- What a line names is there: the statement or the question that was read fits the tables.
 use Rattle.std.proofs.Common.{◌≡◌, ◌∙◌, ◌<◌, ◌≤◌, ◌+◌, ◌-◌, ◌⊎◌, ℕ, zero, suc, Bool, true, false, cond, List, [], ◌∷◌, length, map, Option, Some, None, Result, Ok, Err, refl, sym, ap, subst, inl, inr, arith}
-use Rattle.std.specs.Prelude.{slice_get, nat_le, nat_lt, ◌||◌, ◌==◌}
+use Rattle.std.specs.Prelude.{slice_get, ◌==◌, IfOk}
 use Rattle.std.specs.Str.{bytes_eq}
 use Rattle.std.proofs.lemmas.Bool.{eqb-true}
 use Rattle.std.proofs.lemmas.List.{length-map}
@@ -24,7 +24,7 @@ use Rattle.c5_definitions.specs.Words.{Word, bare, quoted}
 use Rattle.c5_definitions.specs.FitsScript.{HasTable, HasRow, HasIntColumn, StatementFits, ReadLineFits}
 use Rattle.c5_definitions.specs.Numerals.{is_digit, number_of}
 use Rattle.c5_definitions.specs.Places.{found_or, table_in, key_in, row_name_in, number_in, rel_in, cell_in, cells_in, row_in, columns_of, of_whole_numbers, int_column_of, column_in, each_in}
-use Rattle.c5_definitions.specs.Statements.{Form, put, del, need, add, copy, put_of, put_words, del_words, need_words, add_words, copy_words, form_of, statement_words, statement_line, row_words, sum_words, question_line}
+use Rattle.c5_definitions.specs.Statements.{Form, put, del, need, add, copy, put_of, put_words, del_words, need_words, add_words, copy_words, statement_words, row_words, sum_words}
 
 -- ---- steps that did not fail
 
@@ -42,14 +42,10 @@ found_ok : {A : Type 0} (kind : ScriptKind) (o : Option A) (x : A) → found_or 
 found_ok kind None x e = absurd cc
 found_ok kind (Some y) x e = ap (λ (z : _). Some z) (ok_is y x e)
 
--- what a test let through, and what it kept out
+-- what a test let through
 passed : {A : Type 0} (b : Bool) (r : Result A ScriptKind) (kind : ScriptKind) (x : A) → cond b r (Err kind) ≡ Ok x → (b ≡ true) × (r ≡ Ok x)
 passed true r kind x e = (refl, e)
 passed false r kind x e = absurd cc
-
-within : {A : Type 0} (b : Bool) (r : Result A ScriptKind) (kind : ScriptKind) (x : A) → cond b (Err kind) r ≡ Ok x → (b ≡ false) × (r ≡ Ok x)
-within true r kind x e = absurd cc
-within false r kind x e = (refl, e)
 
 -- ---- tables and columns
 
@@ -210,12 +206,6 @@ words-fit need = need-fits
 words-fit add = add-fits
 words-fit copy = copy-fits
 
-pub statement-fits : (tables : List TableDef) (count : ℕ) (first : List ℕ) (words : List Word) (statement : Statement) → statement_line tables count first words ≡ Ok statement → StatementFits tables statement
-unfolding statement_line
-statement-fits tables count first words statement e =
-    let form = bind_ok (form_of first) (λ (f : Form). cond (nat_le 256 count) (Err kinds.Limit) (statement_words f tables words)) statement e in
-    words-fit form.0 tables words statement (within (nat_le 256 count) (statement_words form.0 tables words) kinds.Limit statement form.2).1
-
 -- ---- questions
 
 row-fits : (tables : List TableDef) (words : List Word) (line : ReadLine) → row_words tables words ≡ Ok line → ReadLineFits tables line
@@ -238,8 +228,17 @@ sum-fits tables (t ∷ col ∷ key ∷ keys) line e =
     let all = bind_ok (each_in key_in (key ∷ keys)) (λ (ks : List (List ℕ)). Ok (SumOf table.0 column.0 ks)) line column.2 in
     subst (ReadLineFits tables) (ok_is (SumOf table.0 column.0 all.0) line all.2) (has_column tables table.0 column.0 (table_in-below tables t table.0 table.1) (column-int (columns_of tables table.0) col column.0 column.1))
 
-pub row-line-fits : (tables : List TableDef) (words : List Word) (line : ReadLine) → Ok line ≡ row_words tables words → ReadLineFits tables line
-row-line-fits tables words line e = row-fits tables words line (sym e)
+-- ---- what a function returned, where it returned what reading gives
 
-pub sum-line-fits : (tables : List TableDef) (words : List Word) (line : ReadLine) → Ok line ≡ sum_words tables words → ReadLineFits tables line
-sum-line-fits tables words line e = sum-fits tables words line (sym e)
+if_ok : {A : Type 0} (r read : Result A ScriptKind) (P : A → Type 0) → r ≡ read → ((x : A) → read ≡ Ok x → P x) → IfOk r P
+if_ok (Ok x) read P e f = f x (sym e)
+if_ok (Err kind) read P e f = tt
+
+pub returned-statement-fits : (form : Form) (tables : List TableDef) (words : List Word) (r : Result Statement ScriptKind) → r ≡ statement_words form tables words → IfOk r (StatementFits tables)
+returned-statement-fits form tables words r e = if_ok r (statement_words form tables words) (StatementFits tables) e (words-fit form tables words)
+
+pub returned-row-fits : (tables : List TableDef) (words : List Word) (r : Result ReadLine ScriptKind) → r ≡ row_words tables words → IfOk r (ReadLineFits tables)
+returned-row-fits tables words r e = if_ok r (row_words tables words) (ReadLineFits tables) e (row-fits tables words)
+
+pub returned-sum-fits : (tables : List TableDef) (words : List Word) (r : Result ReadLine ScriptKind) → r ≡ sum_words tables words → IfOk r (ReadLineFits tables)
+returned-sum-fits tables words r e = if_ok r (sum_words tables words) (ReadLineFits tables) e (sum-fits tables words)
