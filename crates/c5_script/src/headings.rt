@@ -1,10 +1,10 @@
 //! Lines outside blocks.
 
-ghost use Rattle.std.specs.Prelude.{◌≡◌, ◌≤◌, ◌<◌, [], length, IfOk, OnOk};
-ghost use Rattle.c5_definitions.specs.ScriptSoFar.{in_read};
+ghost use Rattle.std.specs.Prelude.{◌≡◌, ◌≤◌, ◌<◌, [], Some, length, IfOk, OnOk};
+ghost use Rattle.c5_definitions.specs.ScriptSoFar.{in_txn, in_read};
 ghost use Rattle.c5_definitions.specs.Places.{turn_in, each_in};
-ghost use Rattle.c5_definitions.specs.Statements.{table_of, table_words, table_line, txn_words, read_words, read_line, turns_words, turns_line};
-ghost use Rattle.c5_script.specs.Partial.{block_of, with_turns};
+ghost use Rattle.c5_definitions.specs.Statements.{table_of, table_words, table_line, txn_words, read_words, read_line, turns_words, turns_line, standing_line};
+ghost use Rattle.c5_script.specs.Partial.{so_far, with_turns, BlockFits};
 ghost use Rattle.c5_script.specs.Taking.{Gives, StepsTo};
 ghost use Rattle.c5_script.specs.Words.{word_of, words_of};
 
@@ -64,13 +64,13 @@ pub(crate) fn new_table(tables: &[TableDef], words: &[Word]) -> Result<TableDef,
     table_in(tables, words)
 }
 
-/// The transaction that a line opens.
+// Whether a line may open a transaction.
 #[tactic(auto, unfolding(c5_definitions::specs::Statements::txn_words))]
-pub(crate) fn new_txn(alloc: Global, words: &[Word]) -> Result<OpenBlock, ScriptKind>
-    ensures { Gives block_of result (txn_words (words_of words.now)) }
+fn check_txn(words: &[Word]) -> Result<(), ScriptKind>
+    ensures { Gives (λ _. in_txn []) result (txn_words (words_of words.now)) }
 {
     match words {
-        [] => Ok(OpenBlock::Txn(Body::new(alloc))),
+        [] => Ok(()),
         _ => Err(ScriptKind::Count),
     }
 }
@@ -131,4 +131,32 @@ pub(crate) fn add_turns(script: &mut Script, words: &[Word]) -> Result<(), LineE
         return Err(LineError::Fault(ScriptKind::Limit));
     }
     turns_in(script, words)
+}
+
+/// Takes a line outside blocks, where a table stands.
+#[tactic(auto, unfolding(c5_definitions::specs::Statements::standing_line))]
+pub(crate) fn add_standing(
+    alloc: Global,
+    script: &mut Script,
+    block: &mut OpenBlock,
+    first: &[u8],
+    words: &[Word],
+) -> Result<(), LineError>
+    requires { block.old ≡ OpenBlock.Outside }
+    ensures step { StepsTo (λ _. so_far (Some script.new) block.new) result (standing_line (so_far (Some script.old) block.old) first.now (words_of words.now)) }
+    ensures fits { BlockFits (Some script.new) block.new }
+{
+    if first == b"txn".as_slice() {
+        check_txn(words)?;
+        *block = OpenBlock::Txn(Body::new(alloc));
+        Ok(())
+    } else if first == b"read".as_slice() {
+        let session = new_read(script.reads().len(), words)?;
+        *block = OpenBlock::Opened(session);
+        Ok(())
+    } else if first == b"turns".as_slice() {
+        add_turns(script, words)
+    } else {
+        Err(LineError::Fault(ScriptKind::Word))
+    }
 }

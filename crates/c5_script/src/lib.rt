@@ -4,6 +4,7 @@
 mod block;
 mod blocks;
 mod bodies;
+mod closing;
 mod fault;
 mod headings;
 mod inside;
