@@ -17,7 +17,7 @@ use c5_definitions::ScriptKind;
 #[tactic(auto, unfolding(c5_definitions::specs::Statements::end_line))]
 fn close_txn(script: &mut Script, body: Body, words: &[Word]) -> Result<(), LineError>
     requires { BlockFits (Some script.old) (OpenBlock.Txn body) }
-    ensures { StepsTo (λ _. so_far (Some script.new) OpenBlock.Outside) result (end_line (block_of (OpenBlock.Txn body)) (so_far (Some script.old) OpenBlock.Outside) (words_of words.now)) }
+    ensures { StepsTo (λ _. so_far (Some script.new) OpenBlock.Outside) result (end_line (block_of (OpenBlock.Txn body)) (so_far (Some script.old) (OpenBlock.Txn body)) (words_of words.now)) }
 {
     if !words.is_empty() {
         return Err(LineError::Fault(ScriptKind::Count));
@@ -29,7 +29,7 @@ fn close_txn(script: &mut Script, body: Body, words: &[Word]) -> Result<(), Line
 #[tactic(auto, unfolding(c5_definitions::specs::Statements::end_line))]
 fn close_read(script: &mut Script, read: ReadBlock, words: &[Word]) -> Result<(), LineError>
     requires { BlockFits (Some script.old) (OpenBlock.Read read) }
-    ensures { StepsTo (λ _. so_far (Some script.new) OpenBlock.Outside) result (end_line (block_of (OpenBlock.Read read)) (so_far (Some script.old) OpenBlock.Outside) (words_of words.now)) }
+    ensures { StepsTo (λ _. so_far (Some script.new) OpenBlock.Outside) result (end_line (block_of (OpenBlock.Read read)) (so_far (Some script.old) (OpenBlock.Read read)) (words_of words.now)) }
 {
     if !words.is_empty() {
         return Err(LineError::Fault(ScriptKind::Count));
@@ -46,7 +46,7 @@ pub(crate) fn close(
     words: &[Word],
 ) -> Result<(), LineError>
     requires { BlockFits (Some script.old) block }
-    ensures { StepsTo (λ _. so_far (Some script.new) OpenBlock.Outside) result (end_line (block_of block) (so_far (Some script.old) OpenBlock.Outside) (words_of words.now)) }
+    ensures { StepsTo (λ _. so_far (Some script.new) OpenBlock.Outside) result (end_line (block_of block) (so_far (Some script.old) block) (words_of words.now)) }
 {
     match block {
         OpenBlock::Outside => Err(LineError::Fault(ScriptKind::Word)),

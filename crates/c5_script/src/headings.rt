@@ -1,9 +1,10 @@
 //! Lines outside blocks.
 
-ghost use Rattle.std.specs.Prelude.{◌≡◌, ◌≤◌, ◌<◌, [], Some, length, IfOk, OnOk};
-ghost use Rattle.c5_definitions.specs.ScriptSoFar.{in_txn, in_read};
+ghost use Rattle.std.specs.Prelude.{◌≡◌, ◌≤◌, ◌<◌, ◌++◌, ◌∷◌, [], None, Some, IsTrue, length, IfOk, OnOk};
+ghost use Rattle.c5_rows.specs.Tables.{table_of as number_of};
+ghost use Rattle.c5_definitions.specs.ScriptSoFar.{in_txn, in_read, is_heading};
 ghost use Rattle.c5_definitions.specs.Places.{turn_in, each_in};
-ghost use Rattle.c5_definitions.specs.Statements.{table_of, table_words, table_line, txn_words, read_words, read_line, turns_words, turns_line, standing_line};
+ghost use Rattle.c5_definitions.specs.Statements.{table_of, table_words, table_line, heading_line, outside_line, txn_words, read_words, read_line, turns_words, turns_line, standing_line};
 ghost use Rattle.c5_script.specs.Partial.{so_far, with_turns, BlockFits};
 ghost use Rattle.c5_script.specs.Taking.{Gives, StepsTo};
 ghost use Rattle.c5_script.specs.Words.{word_of, words_of};
@@ -16,7 +17,7 @@ use crate::places::{new_name, session, turn};
 use crate::script::Script;
 use crate::word::Word;
 use c5_definitions::ScriptKind;
-use c5_rows::TableDef;
+use c5_rows::{Schema, TableDef};
 use std::alloc::Global;
 
 /// How many tables a script has at most.
@@ -33,7 +34,8 @@ fn table_of(tables: &[TableDef], word: Word, types: &[Word]) -> Result<TableDef,
     requires tables { length tables.now ≤ 16 }
     requires some { 1 ≤ length types.now }
     requires at_most_eight { length types.now ≤ 8 }
-    ensures { result ≡ table_of tables.now (word_of word.entry) (words_of types.now) }
+    ensures value { result ≡ table_of tables.now (word_of word.entry) (words_of types.now) }
+    ensures new { IfOk result (λ table. number_of table.name tables.now ≡ None) }
 {
     let name = new_name(tables, word)?;
     let columns = column_types(types)?;
@@ -44,7 +46,8 @@ fn table_of(tables: &[TableDef], word: Word, types: &[Word]) -> Result<TableDef,
 fn table_in(tables: &[TableDef], words: &[Word]) -> Result<TableDef, ScriptKind>
     requires tables { length tables.now ≤ 16 }
     requires few { length words.now ≤ 9 }
-    ensures { result ≡ table_words tables.now (words_of words.now) }
+    ensures value { result ≡ table_words tables.now (words_of words.now) }
+    ensures new { IfOk result (λ table. number_of table.name tables.now ≡ None) }
 {
     match words {
         [] | [_] => Err(ScriptKind::Count),
@@ -56,7 +59,9 @@ fn table_in(tables: &[TableDef], words: &[Word]) -> Result<TableDef, ScriptKind>
 #[tactic(auto, unfolding(c5_definitions::specs::Statements::table_line))]
 pub(crate) fn new_table(tables: &[TableDef], words: &[Word]) -> Result<TableDef, ScriptKind>
     requires { length tables.now ≤ 16 }
-    ensures { result ≡ table_line tables.now (words_of words.now) }
+    ensures value { result ≡ table_line tables.now (words_of words.now) }
+    ensures new { IfOk result (λ table. number_of table.name tables.now ≡ None) }
+    ensures room { OnOk result (length tables.now < 16) }
 {
     if tables.len() >= MOST_TABLES || words.len() > MOST_TABLE_WORDS {
         return Err(ScriptKind::Limit);
@@ -158,5 +163,76 @@ pub(crate) fn add_standing(
         add_turns(script, words)
     } else {
         Err(LineError::Fault(ScriptKind::Word))
+    }
+}
+
+// The tables so far.
+fn tables_of(script: &Option<Script>) -> &[TableDef]
+    ensures value { result.now ≡ (so_far script.now OpenBlock.Outside).tables }
+    ensures few { length result.now ≤ 16 }
+{
+    match script {
+        Some(script) => script.schema().tables(),
+        None => &[],
+    }
+}
+
+// Whether no transaction, read block or schedule was accepted.
+fn is_heading(script: &Option<Script>) -> bool
+    ensures { result ≡ is_heading (so_far script.now OpenBlock.Outside) }
+{
+    match script {
+        Some(script) => {
+            script.bodies().is_empty() && script.reads().is_empty() && script.turns().is_empty()
+        }
+        None => true,
+    }
+}
+
+// Adds a table.
+fn push_table(alloc: Global, script: &mut Option<Script>, table: TableDef)
+    requires heading { IsTrue (is_heading (so_far script.old OpenBlock.Outside)) }
+    requires room { length (so_far script.old OpenBlock.Outside).tables < 16 }
+    requires new { number_of table.name (so_far script.old OpenBlock.Outside).tables ≡ None }
+    ensures { so_far script.new OpenBlock.Outside ≡ record (so_far script.old OpenBlock.Outside) { tables = (so_far script.old OpenBlock.Outside).tables ++ table ∷ [] } }
+{
+    match script {
+        Some(script) => script.push_table(table),
+        None => *script = Some(Script::new(alloc, Schema::one(table))),
+    }
+}
+
+#[tactic(auto, unfolding(c5_definitions::specs::Statements::heading_line))]
+fn add_table(alloc: Global, script: &mut Option<Script>, words: &[Word]) -> Result<(), LineError>
+    requires { IsTrue (is_heading (so_far script.old OpenBlock.Outside)) }
+    ensures { StepsTo (λ _. so_far script.new OpenBlock.Outside) result (heading_line (so_far script.old OpenBlock.Outside) (words_of words.now)) }
+{
+    let table = new_table(tables_of(script), words)?;
+    push_table(alloc, script, table);
+    Ok(())
+}
+
+/// Takes a line outside blocks.
+#[tactic(auto, unfolding(c5_definitions::specs::Statements::outside_line))]
+pub(crate) fn add_outside(
+    alloc: Global,
+    script: &mut Option<Script>,
+    block: &mut OpenBlock,
+    first: &[u8],
+    words: &[Word],
+) -> Result<(), LineError>
+    requires { block.old ≡ OpenBlock.Outside }
+    ensures step { StepsTo (λ _. so_far script.new block.new) result (outside_line (so_far script.old OpenBlock.Outside) first.now (words_of words.now)) }
+    ensures fits { BlockFits script.new block.new }
+{
+    if first == b"table".as_slice() && is_heading(script) {
+        return add_table(alloc, script, words);
+    }
+    match script {
+        Some(script) => {
+            let _schema = script.schema();
+            add_standing(alloc, script, block, first, words)
+        }
+        None => Err(LineError::Fault(ScriptKind::Word)),
     }
 }
