@@ -40,11 +40,7 @@ fn close_read(script: &mut Script, read: ReadBlock, words: &[Word]) -> Result<()
 
 /// Closes the block.
 #[tactic(auto, unfolding(c5_definitions::specs::Statements::end_line))]
-pub(crate) fn close(
-    script: &mut Script,
-    block: OpenBlock,
-    words: &[Word],
-) -> Result<(), LineError>
+pub(crate) fn close(script: &mut Script, block: OpenBlock, words: &[Word]) -> Result<(), LineError>
     requires { BlockFits (Some script.old) block }
     ensures { StepsTo (λ _. so_far (Some script.new) OpenBlock.Outside) result (end_line (block_of block) (so_far (Some script.old) block) (words_of words.now)) }
 {
