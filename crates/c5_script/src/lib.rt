@@ -8,6 +8,8 @@ mod closing;
 mod fault;
 mod headings;
 mod inside;
+#[cfg(test)]
+mod line_tests;
 mod lists;
 mod numerals;
 mod partial;
