@@ -1,7 +1,7 @@
 -- Words that are tested one behind the other, as a loop does.
-use Rattle.std.proofs.Common.{◌≡◌, ◌∙◌, ℕ, suc, ◌+◌, ◌<◌, ◌≤◌, List, [], ◌∷◌, ◌++◌, length, get_or, take, drop, set, map, Option, Some, None, Bool, true, false, cond, Result, Ok, Err, ◌≢◌, refl, sym, ap, append_assoc, arith, drop-cons}
+use Rattle.std.proofs.Common.{◌≡◌, ◌∙◌, ℕ, suc, ◌+◌, ◌<◌, ◌≤◌, List, [], ◌∷◌, ◌++◌, length, get_or, drop, map, Some, None, Bool, true, false, cond, Result, Ok, Err, ◌≢◌, refl, sym, ap, append_assoc, arith, drop-cons}
 use Rattle.std.proofs.lemmas.Bool.{ne_eqb, eq-eqb}
-use Rattle.std.proofs.lemmas.List.{append-nil, take_more_set, drop_all, length-map}
+use Rattle.std.proofs.lemmas.List.{append-nil, drop_all, length-map}
 use Rattle.c5_rows.specs.declared.cells.CellType.{CellType}
 use Rattle.c5_rows.specs.declared.cells.Cell.{Cell}
 use Rattle.c5_definitions.specs.declared.script.ScriptKind.{ScriptKind}

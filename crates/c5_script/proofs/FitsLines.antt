@@ -1,9 +1,8 @@
 -- What a line names is there: the statement or the question that was read fits the tables.
-use Rattle.std.proofs.Common.{◌≡◌, ◌∙◌, ◌<◌, ◌≤◌, ◌+◌, ◌-◌, ◌⊎◌, ℕ, zero, suc, Bool, true, false, cond, List, [], ◌∷◌, length, map, Option, Some, None, Result, Ok, Err, refl, sym, ap, subst, inl, inr, arith}
+use Rattle.std.proofs.Common.{◌≡◌, ◌∙◌, ◌<◌, ◌+◌, ◌-◌, ◌⊎◌, ℕ, zero, suc, Bool, true, false, cond, List, [], ◌∷◌, length, map, Option, Some, None, Result, Ok, Err, refl, sym, ap, subst, inl, inr, arith}
 use Rattle.std.specs.Prelude.{slice_get, ◌==◌, IfOk}
 use Rattle.std.specs.Str.{bytes_eq}
 use Rattle.std.proofs.lemmas.Bool.{eqb-true}
-use Rattle.std.proofs.lemmas.List.{length-map}
 use Rattle.c5_rows.specs.Cells.{type_of}
 use Rattle.c5_rows.specs.Bytes.{checked_bytes, is_text_byte}
 use Rattle.c5_rows.specs.Tables.{table_from}
@@ -21,7 +20,7 @@ use Rattle.c5_definitions.specs.declared.script.ReadLine.{ReadLine}
 use Rattle.c5_definitions.specs.declared.script.ReadLine.TheVariants.{OneRow, SumOf}
 use Rattle.c5_definitions.specs.Steps.{◌>>=◌, or_cause}
 use Rattle.c5_definitions.specs.Words.{Word, bare, quoted}
-use Rattle.c5_definitions.specs.FitsScript.{HasTable, HasRow, HasIntColumn, StatementFits, ReadLineFits}
+use Rattle.c5_definitions.specs.FitsScript.{HasRow, HasIntColumn, StatementFits, ReadLineFits}
 use Rattle.c5_definitions.specs.Numerals.{is_digit, number_of}
 use Rattle.c5_definitions.specs.Places.{found_or, table_in, key_in, row_name_in, number_in, rel_in, cell_in, cells_in, row_in, columns_of, of_whole_numbers, int_column_of, column_in, each_in}
 use Rattle.c5_definitions.specs.Statements.{Form, put, del, need, add, copy, put_of, put_words, del_words, need_words, add_words, copy_words, statement_words, row_words, sum_words}

@@ -1,12 +1,10 @@
 -- A script that is read in part, as it is held.
-use Rattle.std.specs.Prelude.{◌≡◌, ◌≤◌, ◌<◌, ℕ, List, [], ◌++◌, length, Option, Some, None, Result, Ok, Err}
-use Rattle.c5_rows.specs.declared.tables.TableDef.{TableDef}
-use Rattle.c5_definitions.specs.declared.script.Statement.{Statement}
+use Rattle.std.specs.Prelude.{◌≤◌, ◌<◌, ℕ, List, [], ◌++◌, length, Option, Some, None, Result, Ok}
 use Rattle.c5_definitions.specs.declared.script.ReadLine.{ReadLine}
 use Rattle.c5_definitions.specs.declared.script.TurnWord.{TurnWord}
 use Rattle.c5_definitions.specs.declared.script.ScriptKind.{ScriptKind}
 use Rattle.c5_definitions.specs.Steps.{◌>>=◌}
-use Rattle.c5_definitions.specs.ScriptParts.{ReadParts, ScriptParts}
+use Rattle.c5_definitions.specs.ScriptParts.{ScriptParts}
 use Rattle.c5_definitions.specs.ScriptSoFar.{ScriptSoFar, Block, outside, in_txn, in_read}
 use Rattle.c5_definitions.specs.FitsScript.{BodyFits, ReadFits}
 use Rattle.c5_script.specs.declared.block.OpenBlock.{OpenBlock}

@@ -1,9 +1,9 @@
-use Rattle.std.proofs.Common.{◌≡◌, ◌+◌, ◌∙◌, ◌∷◌, [], List, ℕ, length, ap, refl, Ok, arith}
+use Rattle.std.proofs.Common.{◌∙◌, ◌∷◌, [], length, ap, arith}
 use Rattle.std.proofs.lemmas.List.{length-append}
 use Rattle.std.proofs.lemmas.Result.{err_from_is_err_and}
 use Rattle.c5_definitions.specs.Places.{key_in, each_in}
 use Rattle.c5_script.specs.Words.{word_of, words_of}
-use Rattle.c5_script.proofs.Each.{with_front, each-more, each-fail, each-all, first-fails, first-read}
+use Rattle.c5_script.proofs.Each.{each-more, each-fail, each-all, first-fails, first-read}
 use Rattle.c5_script.proofs.lists.keys.Goals as goal
 
 pub returns-in_err-first_key : goal.returns-in_err-first_key

@@ -1,8 +1,8 @@
-use Rattle.std.proofs.Common.{◌≡◌, ◌<◌, ◌≤◌, ◌+◌, ◌∙◌, ℕ, ap, sym, List, length, take, drop, Ok, Err, arith}
+use Rattle.std.proofs.Common.{◌≡◌, ◌<◌, ◌≤◌, ◌+◌, ◌∙◌, ℕ, ap, sym, List, length, take, drop, Ok, arith}
 use Rattle.std.proofs.lemmas.List.{length-set, take_more_set}
 use Rattle.std.proofs.lemmas.Result.{err_from_is_err_and}
 use Rattle.c5_rows.specs.declared.cells.Cell.{Cell}
-use Rattle.c5_definitions.specs.Places.{cells_in, row_in}
+use Rattle.c5_definitions.specs.Places.{cells_in}
 use Rattle.c5_script.specs.Words.{word_of, words_of}
 use Rattle.c5_script.proofs.Each.{with_front, cells-more, cells-fail, cells-all, row-read, row-counted, is_chosen}
 use Rattle.c5_script.proofs.lists.row.Goals as goal

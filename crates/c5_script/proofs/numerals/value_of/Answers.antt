@@ -1,5 +1,4 @@
-use Rattle.std.proofs.Common.{◌≡◌, ◌≤◌, ◌∙◌, ◌+◌, ◌-◌, ◌*◌, get_or, ap, sym, arith}
-use Rattle.c5_definitions.specs.Numerals.{digits_after}
+use Rattle.std.proofs.Common.{◌∙◌, sym, arith}
 use Rattle.c5_script.proofs.Digits.{digit_at, digits-more, below-more, below_19, digits-all}
 use Rattle.c5_script.proofs.numerals.value_of.Goals as goal
 
