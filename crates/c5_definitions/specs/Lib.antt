@@ -12,6 +12,7 @@ pub mod Frames
 pub mod Items
 pub mod ScriptParts
 pub mod Words
+pub mod Lines
 pub mod Lawful
 pub mod Texts
 pub mod Worked

@@ -1,0 +1,6 @@
+//! Scripts: what they are made of, and reading them.
+#![tactic(auto)]
+
+mod lines;
+mod word;
+mod words;
