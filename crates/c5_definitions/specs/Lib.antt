@@ -13,6 +13,11 @@ pub mod Items
 pub mod ScriptParts
 pub mod Words
 pub mod Lines
+pub mod ScriptSoFar
+pub mod Numerals
+pub mod Places
+pub mod Statements
+pub mod Script
 pub mod Lawful
 pub mod Texts
 pub mod Worked
