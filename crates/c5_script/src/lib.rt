@@ -1,6 +1,14 @@
-//! Scripts: what they are made of, and reading them.
+//! Scripts: tables, bodies of transactions, read blocks and a schedule.
 #![tactic(auto)]
 
+mod blocks;
+mod bodies;
 mod lines;
+mod script;
 mod word;
 mod words;
+
+pub use blocks::ReadBlock;
+pub use bodies::Body;
+pub use c5_definitions::{Keys, ReadLine, Rel, ScriptFault, ScriptKind, Statement, TurnWord};
+pub use script::Script;

@@ -1,6 +1,6 @@
-//! A word of a line.
+//! The words of a line.
 
-/// A word of a line, borrowed from the script.
+/// A word: bytes without spaces, or the bytes between two quotes.
 #[derive(Clone, Copy, Debug, PartialEq, Eq)]
 pub(crate) enum Word<'a> {
     Bare(&'a [u8]),
