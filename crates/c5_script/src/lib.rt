@@ -3,6 +3,7 @@
 
 mod blocks;
 mod bodies;
+mod fault;
 mod lines;
 mod script;
 mod word;
@@ -11,4 +12,5 @@ mod words;
 pub use blocks::ReadBlock;
 pub use bodies::Body;
 pub use c5_definitions::{Keys, ReadLine, Rel, ScriptFault, ScriptKind, Statement, TurnWord};
+pub use fault::ParseFault;
 pub use script::Script;
