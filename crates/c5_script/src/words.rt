@@ -5,7 +5,7 @@ ghost use Rattle.std.specs.List.{list_all};
 ghost use Rattle.c5_definitions.specs.Words.{bare, quoted};
 ghost use Rattle.c5_definitions.specs.Lines.{between, in_bare, in_quoted, words_at, words_of, is_line_byte};
 ghost use Rattle.c5_script.specs.Words.{word_of, words_of as held_words};
-ghost use Rattle.c5_script.specs.Reading.{FindsWord, StepsTo};
+ghost use Rattle.c5_script.specs.Reading.{is_word_end, FindsWord, StepsTo};
 
 use crate::fault::LineError;
 use crate::word::Word;
@@ -36,14 +36,26 @@ fn bare_in(bytes: &[u8]) -> Result<(&[u8], &[u8]), ScriptKind>
     ensures words { FindsWord (λ x. bare x.0.now) (λ x. x.1.now) (words_at (in_bare (take 1 bytes.now)) (drop 1 bytes.now)) result }
     ensures shorter { IfOk result (λ x. length x.1.now < length bytes.now) }
 {
-    let Some(end) = bare_end(&bytes[1..]) else {
-        return Ok((bytes, &[]));
-    };
-    let (word, behind) = bytes.split_at(end + 1);
-    if behind[0] == b'"' {
-        return Err(ScriptKind::Quote);
+    match bare_end(&bytes[1..]) {
+        None => Ok((bytes, &[])),
+        Some(end) => {
+            let (word, behind) = bytes.split_at(end + 1);
+            if behind[0] == b'"' {
+                return Err(ScriptKind::Quote);
+            }
+            Ok((word, behind))
+        }
     }
-    Ok((word, behind))
+}
+
+// Nothing or a blank comes.
+fn is_word_end(bytes: &[u8]) -> bool
+    ensures { result ≡ is_word_end bytes.now }
+{
+    match bytes {
+        [] => true,
+        [byte, ..] => *byte == b' ',
+    }
 }
 
 // The text up to the closing quote, and the bytes behind that.
@@ -51,13 +63,15 @@ fn text_in(bytes: &[u8]) -> Result<(&[u8], &[u8]), ScriptKind>
     ensures words { FindsWord (λ x. quoted x.0.now) (λ x. x.1.now) (words_at (in_quoted []) bytes.now) result }
     ensures shorter { IfOk result (λ x. length x.1.now < length bytes.now) }
 {
-    let Some(end) = quote(bytes) else {
-        return Err(ScriptKind::Quote);
-    };
-    let (text, rest) = bytes.split_at(end);
-    match &rest[1..] {
-        behind @ ([] | [b' ', ..]) => Ok((text, behind)),
-        _ => Err(ScriptKind::Quote),
+    match quote(bytes) {
+        None => Err(ScriptKind::Quote),
+        Some(end) => {
+            let behind = &bytes[end + 1..];
+            if !is_word_end(behind) {
+                return Err(ScriptKind::Quote);
+            }
+            Ok((&bytes[..end], behind))
+        }
     }
 }
 
