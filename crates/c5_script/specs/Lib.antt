@@ -1,2 +1,6 @@
 pub mod Words
 pub mod Reading
+pub mod Taking
+pub mod Partial
+pub mod Front
+pub mod Parsing

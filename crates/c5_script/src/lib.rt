@@ -1,10 +1,16 @@
 //! Scripts: tables, bodies of transactions, read blocks and a schedule.
 #![tactic(auto)]
 
+mod block;
 mod blocks;
 mod bodies;
 mod fault;
+mod front_parsing;
 mod lines;
+mod numerals;
+mod parsing;
+mod partial;
+mod places;
 mod script;
 mod word;
 mod words;
@@ -12,5 +18,6 @@ mod words;
 pub use blocks::ReadBlock;
 pub use bodies::Body;
 pub use c5_definitions::{Keys, ReadLine, Rel, ScriptFault, ScriptKind, Statement, TurnWord};
-pub use fault::ParseFault;
+pub use front_parsing::{Front, parse_front};
+pub use parsing::{ParseFault, parse};
 pub use script::Script;

@@ -5,7 +5,8 @@ ghost use Rattle.std.specs.List.{list_all};
 ghost use Rattle.c5_definitions.specs.Words.{bare, quoted};
 ghost use Rattle.c5_definitions.specs.Lines.{between, in_bare, in_quoted, words_at, words_of, is_line_byte};
 ghost use Rattle.c5_script.specs.Words.{word_of, words_of as held_words};
-ghost use Rattle.c5_script.specs.Reading.{is_word_end, FindsWord, StepsTo};
+ghost use Rattle.c5_script.specs.Reading.{is_word_end, FindsWord};
+ghost use Rattle.c5_script.specs.Taking.{StepsTo};
 
 use crate::fault::LineError;
 use crate::word::Word;
@@ -100,7 +101,7 @@ pub(crate) fn words_in<'a>(line: &'a [u8], words: &mut Vec<Word<'a>>) -> Result<
     ensures { StepsTo (λ _. held_words words.new.items) result (words_of line.now) }
 {
     if !has_line_bytes(line) {
-        return Err(LineError::Bad(ScriptKind::Byte));
+        return Err(LineError::Fault(ScriptKind::Byte));
     }
     words.clear();
     let mut rest = line;
@@ -110,9 +111,9 @@ pub(crate) fn words_in<'a>(line: &'a [u8], words: &mut Vec<Word<'a>>) -> Result<
         } else {
             let (word, behind) = match word_in(rest) {
                 Ok(found) => found,
-                Err(kind) => return Err(LineError::Bad(kind)),
+                Err(kind) => return Err(LineError::Fault(kind)),
             };
-            words.push(word)?;
+            words.push(word).map_err(|_| LineError::NoMemory)?;
             rest = behind;
         }
     }

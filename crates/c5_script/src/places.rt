@@ -1,0 +1,1 @@
+//! The test of a word by its place on the line.
