@@ -53,14 +53,17 @@ pub fn parse_front(alloc: Global, bytes: &[u8]) -> Result<Front<'_>, ParseFault>
     let mut number = 1;
     while !rest.is_empty() {
         let (line, behind) = first_line(rest);
-        if let Taken::Log = take_front_line(&mut script, &mut words, number, line)? {
-            let Some(script) = script.finish() else {
-                unreachable!();
-            };
-            return Ok(Front {
-                script,
-                rest: behind,
-            });
+        match take_front_line(&mut script, &mut words, number, line)? {
+            Taken::More => {}
+            Taken::Log => {
+                return match script.finish() {
+                    Some(script) => Ok(Front {
+                        script,
+                        rest: behind,
+                    }),
+                    None => unreachable!(),
+                };
+            }
         }
         rest = behind;
         number += 1;

@@ -29,7 +29,9 @@ impl ParseFault {
     ghost use Rattle.c5_script.specs.Parsing.{fault_of};
 
     // Why a line of this number was not taken.
-    pub(crate) fn on_line(line: u32, error: LineError) -> Self {
+    pub(crate) fn on_line(line: u32, error: LineError) -> Self
+        ensures { result ≡ fault_of line error }
+    {
         match error {
             LineError::Fault(kind) => ParseFault::Bad(ScriptFault { line, kind }),
             LineError::NoMemory => ParseFault::NoMemory,
