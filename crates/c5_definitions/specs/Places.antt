@@ -62,16 +62,20 @@ cell_in types.Text (bare bytes) = Err kinds.WrongType
 abbrev pub columns_of : List TableDef → ℕ → List CellType
 columns_of tables number = elim (slice_get tables number) [ None ↦ [] | Some table ↦ table.columns ]
 
--- the column has the type Int
+-- the column has the type of whole numbers
 abbrev pub of_whole_numbers : ℕ → CellType → Result ℕ ScriptKind
 of_whole_numbers column types.Int = Ok column
 of_whole_numbers column types.Text = Err kinds.WrongType
 
--- one digit, which is the number of a column of the type Int
+-- the column of this number, which has to be one of whole numbers
+unfoldable pub int_column_of : List CellType → ℕ → Result ℕ ScriptKind
+int_column_of columns column = found_or kinds.Column (slice_get columns column) >>= of_whole_numbers column
+
+-- one digit, which is the number of a column of whole numbers
 unfoldable pub column_in : List CellType → Word → Result ℕ ScriptKind
 column_in columns (quoted text) = Err kinds.Column
 column_in columns (bare []) = Err kinds.Column
-column_in columns (bare (digit ∷ [])) = if is_digit digit then (found_or kinds.Column (slice_get columns (digit - 48)) >>= of_whole_numbers (digit - 48)) else Err kinds.Column
+column_in columns (bare (digit ∷ [])) = if is_digit digit then int_column_of columns (digit - 48) else Err kinds.Column
 column_in columns (bare (digit ∷ other ∷ rest)) = Err kinds.Column
 
 -- how to compare
@@ -106,36 +110,23 @@ turn_in (bare (first ∷ rest)) =
 
 -- ---- words that stand one behind the other, tested from left to right
 
-unfoldable pub types_in : List Word → Result (List CellType) ScriptKind
-types_in [] = Ok []
-types_in (word ∷ words) = do
-  first ← type_in word
-  others ← types_in words
+-- words that all pass the same test
+unfoldable pub each_in : {A : Type 0} → (Word → Result A ScriptKind) → List Word → Result (List A) ScriptKind
+each_in test [] = Ok []
+each_in test (word ∷ words) = do
+  first ← test word
+  others ← each_in test words
   Ok (first ∷ others)
 
-unfoldable pub keys_in : List Word → Result (List (List ℕ)) ScriptKind
-keys_in [] = Ok []
-keys_in (word ∷ words) = do
-  first ← key_in word
-  others ← keys_in words
-  Ok (first ∷ others)
-
-unfoldable pub turns_in : List Word → Result (List TurnWord) ScriptKind
-turns_in [] = Ok []
-turns_in (word ∷ words) = do
-  first ← turn_in word
-  others ← turns_in words
-  Ok (first ∷ others)
-
--- a cell for each column, as far as both go
-unfoldable pub each_cell_in : List CellType → List Word → Result (List Cell) ScriptKind
-each_cell_in [] words = Ok []
-each_cell_in (column ∷ columns) [] = Ok []
-each_cell_in (column ∷ columns) (word ∷ words) = do
+-- cells of these columns, as far as both go
+unfoldable pub cells_in : List CellType → List Word → Result (List Cell) ScriptKind
+cells_in [] words = Ok []
+cells_in (column ∷ columns) [] = Ok []
+cells_in (column ∷ columns) (word ∷ words) = do
   first ← cell_in column word
-  others ← each_cell_in columns words
+  others ← cells_in columns words
   Ok (first ∷ others)
 
 -- the cells of a row: one for each column, and another number of words is a fault before the first of them
 unfoldable pub row_in : List CellType → List Word → Result (List Cell) ScriptKind
-row_in columns words = if length words == length columns then each_cell_in columns words else Err kinds.Count
+row_in columns words = if length words == length columns then cells_in columns words else Err kinds.Count

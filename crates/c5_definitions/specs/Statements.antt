@@ -15,7 +15,7 @@ use Rattle.c5_definitions.specs.Steps.{◌>>=◌}
 use Rattle.c5_definitions.specs.Words.{Word, bare, quoted}
 use Rattle.c5_definitions.specs.ScriptParts.{ReadParts}
 use Rattle.c5_definitions.specs.ScriptSoFar.{ScriptSoFar, Block, outside, in_txn, in_read, is_outside, has_table, is_heading}
-use Rattle.c5_definitions.specs.Places.{new_name_in, types_in, table_in, key_in, keys_in, number_in, row_in, columns_of, column_in, rel_in, session_in, turns_in}
+use Rattle.c5_definitions.specs.Places.{new_name_in, type_in, table_in, key_in, number_in, row_in, columns_of, column_in, rel_in, session_in, turn_in, each_in}
 
 -- ---- outside blocks
 
@@ -25,7 +25,7 @@ table_words tables [] = Err kinds.Count
 table_words tables (name ∷ []) = Err kinds.Count
 table_words tables (name ∷ type ∷ types) = do
   new ← new_name_in tables name
-  columns ← types_in (type ∷ types)
+  columns ← each_in type_in (type ∷ types)
   Ok (record { name = new; columns = columns })
 
 -- at most 16 tables, and at most 8 types
@@ -50,7 +50,7 @@ read_line s words = if nat_le 256 (length s.reads) then Err kinds.Limit else (re
 -- `turns WORD ..`
 unfoldable pub turns_words : ScriptSoFar → List Word → Result ScriptSoFar ScriptKind
 turns_words s [] = Err kinds.Count
-turns_words s (word ∷ words) = turns_in (word ∷ words) >>= λ new. Ok (record s { turns = s.turns ++ new })
+turns_words s (word ∷ words) = each_in turn_in (word ∷ words) >>= λ new. Ok (record s { turns = s.turns ++ new })
 
 -- at most 65,536 turn words in all
 unfoldable pub turns_line : ScriptSoFar → List Word → Result ScriptSoFar ScriptKind
@@ -157,7 +157,7 @@ unfoldable pub sum_words : List TableDef → List Word → Result ReadLine Scrip
 sum_words tables (t ∷ col ∷ key ∷ keys) = do
   table ← table_in tables t
   column ← column_in (columns_of tables table) col
-  all ← keys_in (key ∷ keys)
+  all ← each_in key_in (key ∷ keys)
   Ok (SumOf table column all)
 sum_words tables _ = Err kinds.Count
 

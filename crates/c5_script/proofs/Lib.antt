@@ -1,5 +1,7 @@
-pub mod LineLaws
-pub mod WordLaws
-pub mod ScriptLemmas
-pub mod ParseLaws
+pub mod Digits
+pub mod Each
 pub mod FrontLaws
+pub mod LineLaws
+pub mod ParseLaws
+pub mod ScriptLemmas
+pub mod WordLaws

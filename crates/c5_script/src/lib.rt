@@ -7,11 +7,13 @@ mod bodies;
 mod fault;
 mod front_parsing;
 mod lines;
+mod lists;
 mod numerals;
 mod parsing;
 mod partial;
 mod places;
 mod script;
+mod statements;
 mod word;
 mod words;
 

@@ -1,6 +1,6 @@
 //! Numbers that are written in words.
 
-ghost use Rattle.std.specs.Prelude.{◌≡◌, ◌<◌, ◌^◌, Some, None, IfSome, length};
+ghost use Rattle.std.specs.Prelude.{◌≡◌, ◌≤◌, length, IsTrue};
 ghost use Rattle.std.specs.List.{list_all};
 ghost use Rattle.c5_definitions.specs.Numerals.{is_digit, digits_after, magnitude_of, as_positive, as_negative, number_of, turn_number_of};
 
@@ -8,6 +8,19 @@ fn are_digits(bytes: &[u8]) -> bool
     ensures { result ≡ list_all is_digit bytes.now }
 {
     bytes.iter().all(|byte| *byte >= b'0' && *byte <= b'9')
+}
+
+// The number that digits write.
+fn value_of(digits: &[u8]) -> u64
+    requires few { length digits.now ≤ 19 }
+    requires digits { IsTrue (list_all is_digit digits.now) }
+    ensures { result ≡ digits_after 0 digits.now }
+{
+    let mut n: u64 = 0;
+    for digit in digits {
+        n = n * 10 + u64::from(*digit - b'0');
+    }
+    n
 }
 
 // The number that 1 to 19 digits write.
@@ -18,11 +31,7 @@ fn magnitude_in(digits: &[u8]) -> Option<u64>
     if digits.is_empty() || digits.len() > 19 || !are_digits(digits) {
         return None;
     }
-    let mut n: u64 = 0;
-    for digit in digits {
-        n = n * 10 + u64::from(*digit - b'0');
-    }
-    Some(n)
+    Some(value_of(digits))
 }
 
 fn positive(n: u64) -> Option<i64>
@@ -40,18 +49,19 @@ fn negative(n: u64) -> Option<i64>
 /// The number that an optional minus and 1 to 19 digits write. `None` exactly where `bytes` are
 /// nothing of the kind, or the number has more than 64 bits with its sign.
 #[tactic(auto, unfolding(c5_definitions::specs::Numerals::number_of))]
-pub(crate) fn number_in(bytes: &[u8]) -> Option<i64>
+pub(crate) fn number_of(bytes: &[u8]) -> Option<i64>
     ensures { result ≡ number_of bytes.now }
 {
     match bytes {
+        [] => None,
         [b'-', digits @ ..] => negative(magnitude_in(digits)?),
-        _ => positive(magnitude_in(bytes)?),
+        [_, ..] => positive(magnitude_in(bytes)?),
     }
 }
 
 /// The number from 1 to 16 that one or two digits write, the first of them not 0.
 #[tactic(auto, unfolding(c5_definitions::specs::Numerals::turn_number_of))]
-pub(crate) fn turn_number_in(digits: &[u8]) -> Option<u32>
+pub(crate) fn turn_number_of(digits: &[u8]) -> Option<u32>
     ensures { result ≡ turn_number_of digits.now }
 {
     match digits {

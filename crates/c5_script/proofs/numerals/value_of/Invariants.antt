@@ -1,6 +1,6 @@
 use Rattle.std.proofs.Common.{◌≡◌, ◌<◌, ◌^◌, drop}
 use Rattle.c5_definitions.specs.Numerals.{digits_after}
-use Rattle.c5_script.proofs.numerals.magnitude_in.Given as goal
+use Rattle.c5_script.proofs.numerals.value_of.Given as goal
 
 -- the digits left lead to the number of them all, which is still small
 abbrev pub invariant-loop-digit : goal.invariant-loop-digit
