@@ -22,3 +22,4 @@ pub mod Script
 pub mod Lawful
 pub mod Texts
 pub mod Worked
+pub mod WorkedScripts
