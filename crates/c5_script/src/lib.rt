@@ -23,3 +23,6 @@ pub use c5_definitions::{Keys, ReadLine, Rel, ScriptFault, ScriptKind, Statement
 pub use front_parsing::{Front, parse_front};
 pub use parsing::{ParseFault, parse};
 pub use script::Script;
+
+#[cfg(test)]
+mod parsing_tests;
