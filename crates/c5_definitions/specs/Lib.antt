@@ -14,6 +14,7 @@ pub mod ScriptParts
 pub mod FitsScript
 pub mod Words
 pub mod Lines
+pub mod LineGrammar
 pub mod ScriptSoFar
 pub mod Numerals
 pub mod Places

@@ -1,5 +1,5 @@
 -- The lines of a script, and the words of a line.
-use Rattle.std.specs.Prelude.{ℕ, zero, suc, ◌==◌, Bool, List, [], ◌∷◌, ◌++◌, Result, Ok, Err, if◌then◌else◌}
+use Rattle.std.specs.Prelude.{ℕ, zero, suc, ◌==◌, Bool, true, List, [], ◌∷◌, ◌++◌, Result, Ok, Err, if◌then◌else◌}
 use Rattle.std.specs.List.{list_all, onto_first}
 use Rattle.c5_rows.specs.Bytes.{is_between}
 use Rattle.c5_definitions.specs.declared.script.ScriptKind.{ScriptKind}
@@ -32,6 +32,11 @@ pub data Place : Type 0 where
   in_bare : List ℕ → Place
   in_quoted : List ℕ → Place
   behind_quoted : Place
+
+-- nothing or a blank comes
+abbrev pub is_word_end : List ℕ → Bool
+is_word_end [] = true
+is_word_end (byte ∷ bytes) = byte == 32
 
 -- a word, and then the others
 abbrev pub with_word : Word → Result (List Word) ScriptKind → Result (List Word) ScriptKind

@@ -1,10 +1,26 @@
-//! Laws that check the definition of a script against scripts that were worked by hand.
+//! Laws that check the definition of a script: against how it is written, and against scripts that were
+//! worked by hand.
 
-ghost use Rattle.std.specs.Prelude.{◌≡◌, [], ◌∷◌, ◌++◌, Ok, Err, codes};
+ghost use Rattle.std.specs.Prelude.{◌≡◌, ◌≤◌, ◌↔◌, ℕ, List, [], ◌∷◌, ◌++◌, length, Ok, Err, codes};
+ghost use Rattle.std.specs.List.{AllByRecursion};
+ghost use Rattle.c5_definitions.specs.Words.{Word};
+ghost use Rattle.c5_definitions.specs.Lines.{lines_of, words_of};
+ghost use Rattle.c5_definitions.specs.LineGrammar.{IsLine, ended_lines, IsLineOf};
 ghost use Rattle.c5_definitions.specs.declared.script.ScriptKind.TheVariants as kinds;
 ghost use Rattle.c5_definitions.specs.Script.{script_of, front_of};
 ghost use Rattle.c5_definitions.specs.Worked.{worked_bytes};
 ghost use Rattle.c5_definitions.specs.WorkedScripts.{table_text, table_parts, put_text, put_parts, quoted_text, quoted_parts, all_text, all_parts, bad_number_text, bad_type_text, open_text, tab_text, quote_text, front_text};
+
+/// Lines that are written one behind the other are the lines of the bytes, also where the last has no line end.
+pub fn lines_read_back()
+    ensures ended { (lines : List (List ℕ)) → AllByRecursion IsLine lines → lines_of (ended_lines lines) ≡ lines }
+    ensures open_at_the_end { (lines : List (List ℕ)) (last : List ℕ) → AllByRecursion IsLine lines → IsLine last → 1 ≤ length last → lines_of (ended_lines lines ++ last) ≡ lines ++ last ∷ [] }
+{}
+
+/// The words of a line are those that are written there.
+pub fn words_read_back()
+    ensures { (words : List Word) (line : List ℕ) → words_of line ≡ Ok words ↔ IsLineOf words line }
+{}
 
 /// What scripts are.
 pub fn worked_scripts()
