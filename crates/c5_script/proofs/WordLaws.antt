@@ -8,8 +8,8 @@ use Rattle.std.proofs.lemmas.List.Quantifiers.{position-Some}
 use Rattle.c5_definitions.specs.declared.script.ScriptKind.{ScriptKind}
 use Rattle.c5_definitions.specs.declared.script.ScriptKind.TheVariants as kinds
 use Rattle.c5_definitions.specs.Words.{Word, bare, quoted}
-use Rattle.c5_definitions.specs.Lines.{between, in_bare, in_quoted, behind_quoted, with_word, words_at, words_of, is_line_byte}
-use Rattle.c5_script.specs.Reading.{is_word_end, with_words}
+use Rattle.c5_definitions.specs.Lines.{is_word_end, between, in_bare, in_quoted, behind_quoted, with_word, words_at, words_of, is_line_byte}
+use Rattle.c5_script.specs.Reading.{with_words}
 
 -- ---- up to the first byte that passes a test
 

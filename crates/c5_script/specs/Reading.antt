@@ -1,5 +1,5 @@
 -- What the steps of reading a line give.
-use Rattle.std.specs.Prelude.{◌≡◌, ℕ, ◌==◌, Bool, true, List, [], ◌∷◌, ◌++◌, Result, Ok, Err}
+use Rattle.std.specs.Prelude.{◌≡◌, ℕ, List, ◌++◌, Result, Ok, Err}
 use Rattle.c5_definitions.specs.declared.script.ScriptKind.{ScriptKind}
 use Rattle.c5_definitions.specs.Words.{Word}
 use Rattle.c5_definitions.specs.Lines.{between, with_word, words_at}
@@ -8,11 +8,6 @@ use Rattle.c5_definitions.specs.Lines.{between, with_word, words_at}
 abbrev pub with_words : List Word → Result (List Word) ScriptKind → Result (List Word) ScriptKind
 with_words front (Ok words) = Ok (front ++ words)
 with_words front (Err kind) = Err kind
-
--- nothing or a blank comes
-abbrev pub is_word_end : List ℕ → Bool
-is_word_end [] = true
-is_word_end (byte ∷ bytes) = byte == 32
 
 -- these are the word that was found and the words of the bytes behind it; or they have the fault
 abbrev pub FindsWord : {X : Type 0} → (X → Word) → (X → List ℕ) → Result (List Word) ScriptKind → Result X ScriptKind → Type 0

@@ -3,9 +3,9 @@
 ghost use Rattle.std.specs.Prelude.{◌≡◌, ◌≢◌, ◌<◌, ◌≤◌, ◌==◌, ◌||◌, [], ◌∷◌, length, take, drop, position, slice_index, IfOk};
 ghost use Rattle.std.specs.List.{list_all};
 ghost use Rattle.c5_definitions.specs.Words.{bare, quoted};
-ghost use Rattle.c5_definitions.specs.Lines.{between, in_bare, in_quoted, words_at, words_of, is_line_byte};
+ghost use Rattle.c5_definitions.specs.Lines.{between, in_bare, in_quoted, words_at, words_of, is_line_byte, is_word_end};
 ghost use Rattle.c5_script.specs.Words.{word_of, words_of as held_words};
-ghost use Rattle.c5_script.specs.Reading.{is_word_end, FindsWord};
+ghost use Rattle.c5_script.specs.Reading.{FindsWord};
 ghost use Rattle.c5_script.specs.Taking.{StepsTo};
 
 use crate::fault::LineError;

@@ -1,8 +1,7 @@
 use Rattle.std.proofs.Common.{◌≡◌, ◌∙◌, ◌+◌, ℕ, List, true, false, take, drop, sym, ap}
 use Rattle.std.proofs.lemmas.List.{take_rest}
 use Rattle.c5_definitions.specs.Words.{quoted}
-use Rattle.c5_definitions.specs.Lines.{with_word}
-use Rattle.c5_script.specs.Reading.{is_word_end}
+use Rattle.c5_definitions.specs.Lines.{is_word_end, with_word}
 use Rattle.c5_script.proofs.WordLaws.{text-None, text-Some, behind_text, behind_text_no}
 use Rattle.c5_script.proofs.words.text_in.Goals as goal
 
