@@ -8,6 +8,7 @@ use Rattle.c5_rows.specs.declared.cells.CellType.TheVariants as types
 use Rattle.c5_rows.specs.declared.cells.Cell.{Cell}
 use Rattle.c5_rows.specs.declared.cells.Cell.TheVariants.{Int, Txt}
 use Rattle.c5_rows.specs.declared.tables.TableDef.{TableDef}
+use Rattle.c5_rows.specs.declared.writes.RowName.{RowName}
 use Rattle.c5_definitions.specs.declared.script.Rel.{Rel}
 use Rattle.c5_definitions.specs.declared.script.Rel.TheVariants as rels
 use Rattle.c5_definitions.specs.declared.script.TurnWord.{TurnWord}
@@ -45,6 +46,13 @@ table_in tables (bare bytes) = found_or kinds.Table (table_of bytes tables)
 unfoldable pub key_in : Word → Result (List ℕ) ScriptKind
 key_in (quoted text) = Err kinds.Key
 key_in (bare bytes) = or_cause kinds.Key (checked_bytes 1 32 is_key_byte bytes)
+
+-- the name of a table and a key, which name a row
+unfoldable pub row_name_in : List TableDef → Word → Word → Result RowName ScriptKind
+row_name_in tables t k = do
+  table ← table_in tables t
+  key ← key_in k
+  Ok (record { table = table; key = key })
 
 -- a number
 unfoldable pub number_in : Word → Result ℤ ScriptKind

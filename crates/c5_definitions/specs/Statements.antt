@@ -15,18 +15,20 @@ use Rattle.c5_definitions.specs.Steps.{◌>>=◌}
 use Rattle.c5_definitions.specs.Words.{Word, bare, quoted}
 use Rattle.c5_definitions.specs.ScriptParts.{ReadParts}
 use Rattle.c5_definitions.specs.ScriptSoFar.{ScriptSoFar, Block, outside, in_txn, in_read, is_outside, has_table, is_heading}
-use Rattle.c5_definitions.specs.Places.{new_name_in, type_in, table_in, key_in, number_in, row_in, columns_of, column_in, rel_in, session_in, turn_in, each_in}
+use Rattle.c5_definitions.specs.Places.{new_name_in, type_in, table_in, key_in, row_name_in, number_in, row_in, columns_of, column_in, rel_in, session_in, turn_in, each_in}
 
 -- ---- outside blocks
 
 -- `table NAME TYPE ..`
+unfoldable pub table_of : List TableDef → Word → List Word → Result TableDef ScriptKind
+table_of tables word types = do
+  name ← new_name_in tables word
+  columns ← each_in type_in types
+  Ok (record { name = name; columns = columns })
+
 unfoldable pub table_words : List TableDef → List Word → Result TableDef ScriptKind
-table_words tables [] = Err kinds.Count
-table_words tables (name ∷ []) = Err kinds.Count
-table_words tables (name ∷ type ∷ types) = do
-  new ← new_name_in tables name
-  columns ← each_in type_in (type ∷ types)
-  Ok (record { name = new; columns = columns })
+table_words tables (name ∷ type ∷ types) = table_of tables name (type ∷ types)
+table_words tables _ = Err kinds.Count
 
 -- at most 16 tables, and at most 8 types
 unfoldable pub table_line : List TableDef → List Word → Result TableDef ScriptKind
@@ -68,50 +70,46 @@ outside_line s first words =
 -- ---- in a transaction
 
 -- `put T K CELL ..`, one cell for each column
+unfoldable pub put_of : List TableDef → Word → Word → List Word → Result Statement ScriptKind
+put_of tables t k cells = do
+  name ← row_name_in tables t k
+  row ← row_in (columns_of tables name.table) cells
+  Ok (Put name row)
+
 unfoldable pub put_words : List TableDef → List Word → Result Statement ScriptKind
-put_words tables (t ∷ k ∷ cell ∷ cells) = do
-  table ← table_in tables t
-  key ← key_in k
-  row ← row_in (columns_of tables table) (cell ∷ cells)
-  Ok (Put (record { table = table; key = key }) row)
+put_words tables (t ∷ k ∷ cell ∷ cells) = put_of tables t k (cell ∷ cells)
 put_words tables _ = Err kinds.Count
 
 -- `del T K`
 unfoldable pub del_words : List TableDef → List Word → Result Statement ScriptKind
-del_words tables (t ∷ k ∷ []) = do
-  table ← table_in tables t
-  key ← key_in k
-  Ok (Del (record { table = table; key = key }))
+del_words tables (t ∷ k ∷ []) = row_name_in tables t k >>= λ name. Ok (Del name)
 del_words tables _ = Err kinds.Count
 
 -- `need T K COL REL N`
 unfoldable pub need_words : List TableDef → List Word → Result Statement ScriptKind
 need_words tables (t ∷ k ∷ col ∷ rel ∷ n ∷ []) = do
-  table ← table_in tables t
-  key ← key_in k
-  column ← column_in (columns_of tables table) col
+  name ← row_name_in tables t k
+  column ← column_in (columns_of tables name.table) col
   relation ← rel_in rel
   number ← number_in n
-  Ok (Need (record { table = table; key = key }) column relation number)
+  Ok (Need name column relation number)
 need_words tables _ = Err kinds.Count
 
 -- `add T K COL N`
 unfoldable pub add_words : List TableDef → List Word → Result Statement ScriptKind
 add_words tables (t ∷ k ∷ col ∷ n ∷ []) = do
-  table ← table_in tables t
-  key ← key_in k
-  column ← column_in (columns_of tables table) col
+  name ← row_name_in tables t k
+  column ← column_in (columns_of tables name.table) col
   number ← number_in n
-  Ok (Add (record { table = table; key = key }) column number)
+  Ok (Add name column number)
 add_words tables _ = Err kinds.Count
 
 -- `copy T K1 K2`
 unfoldable pub copy_words : List TableDef → List Word → Result Statement ScriptKind
 copy_words tables (t ∷ k1 ∷ k2 ∷ []) = do
-  table ← table_in tables t
-  from ← key_in k1
-  to ← key_in k2
-  Ok (Copy (record { table = table; key = from }) (record { table = table; key = to }))
+  from ← row_name_in tables t k1
+  key ← key_in k2
+  Ok (Copy from (record { table = from.table; key = key }))
 copy_words tables _ = Err kinds.Count
 
 -- which statement a line is
@@ -146,10 +144,7 @@ statement_line tables count first words = form_of first >>= λ form. if nat_le 2
 
 -- `row T K`
 unfoldable pub row_words : List TableDef → List Word → Result ReadLine ScriptKind
-row_words tables (t ∷ k ∷ []) = do
-  table ← table_in tables t
-  key ← key_in k
-  Ok (OneRow (record { table = table; key = key }))
+row_words tables (t ∷ k ∷ []) = row_name_in tables t k >>= λ name. Ok (OneRow name)
 row_words tables _ = Err kinds.Count
 
 -- `sum T COL K ..`

@@ -5,3 +5,4 @@ pub mod LineLaws
 pub mod ParseLaws
 pub mod ScriptLemmas
 pub mod WordLaws
+pub mod Shapes

@@ -4,3 +4,4 @@ pub mod Taking
 pub mod Partial
 pub mod Front
 pub mod Parsing
+pub mod Forms

@@ -3,13 +3,13 @@
 ghost use Rattle.std.specs.Prelude.{◌≡◌, ◌≤◌, length};
 ghost use Rattle.c5_definitions.specs.Numerals.{turn_number_of};
 ghost use Rattle.c5_rows.specs.Tables.{IsSchema, table_of};
-ghost use Rattle.c5_definitions.specs.Places.{new_name_in, type_in, table_in, key_in, number_in, cell_in, found_or, columns_of, column_in, rel_in, session_in, turn_in, int_column_of};
+ghost use Rattle.c5_definitions.specs.Places.{new_name_in, type_in, table_in, key_in, row_name_in, number_in, cell_in, found_or, columns_of, column_in, rel_in, session_in, turn_in, int_column_of};
 ghost use Rattle.c5_script.specs.Words.{word_of};
 
 use crate::numerals::{number_of, turn_number_of};
 use crate::word::Word;
 use c5_definitions::{Rel, ScriptKind, TurnWord};
-use c5_rows::{Cell, CellType, Key, TableDef, TableName, TextCell};
+use c5_rows::{Cell, CellType, Key, RowName, TableDef, TableName, TextCell};
 
 // The number of the table of this name.
 fn number_named(tables: &[TableDef], name: &[u8]) -> Option<u8>
@@ -86,6 +86,21 @@ pub(crate) fn key(word: Word) -> Result<Key, ScriptKind>
         Ok(key) => Ok(key),
         Err(_) => Err(ScriptKind::Key),
     }
+}
+
+/// The name of a row.
+#[tactic(auto, unfolding(c5_definitions::specs::Places::row_name_in))]
+pub(crate) fn row_name(
+    tables: &[TableDef],
+    table_word: Word,
+    key_word: Word,
+) -> Result<RowName, ScriptKind>
+    requires { length tables.now ≤ 16 }
+    ensures { result ≡ row_name_in tables.now (word_of table_word.entry) (word_of key_word.entry) }
+{
+    let table = table(tables, table_word)?;
+    let key = key(key_word)?;
+    Ok(RowName { table, key })
 }
 
 /// A number.
