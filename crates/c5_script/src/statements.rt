@@ -115,12 +115,7 @@ fn add(tables: &[TableDef], words: &[Word]) -> Result<Statement, ScriptKind>
 }
 
 #[tactic(auto, unfolding(c5_definitions::specs::Statements::copy_words))]
-fn copy_of(
-    tables: &[TableDef],
-    table: Word,
-    from: Word,
-    to: Word,
-) -> Result<Statement, ScriptKind>
+fn copy_of(tables: &[TableDef], table: Word, from: Word, to: Word) -> Result<Statement, ScriptKind>
     requires { length tables.now ≤ 16 }
     ensures { result ≡ copy_words tables.now (word_of table.entry ∷ word_of from.entry ∷ word_of to.entry ∷ []) }
 {
