@@ -9,6 +9,7 @@ use Rattle.c5_definitions.specs.declared.script.Statement.{Statement}
 use Rattle.c5_definitions.specs.declared.script.Statement.TheVariants.{Put, Del, Need, Add, Copy}
 use Rattle.c5_definitions.specs.declared.script.ReadLine.{ReadLine}
 use Rattle.c5_definitions.specs.declared.script.ReadLine.TheVariants.{OneRow, SumOf}
+use Rattle.c5_definitions.specs.declared.script.TurnWord.{TurnWord}
 use Rattle.c5_definitions.specs.declared.script.ScriptKind.{ScriptKind}
 use Rattle.c5_definitions.specs.declared.script.ScriptKind.TheVariants as kinds
 use Rattle.c5_definitions.specs.Steps.{◌>>=◌}
@@ -35,37 +36,42 @@ unfoldable pub table_line : List TableDef → List Word → Result TableDef Scri
 table_line tables words = if nat_le 16 (length tables) || nat_lt 9 (length words) then Err kinds.Limit else table_words tables words
 
 -- `txn`
-unfoldable pub txn_line : ScriptSoFar → List Word → Result ScriptSoFar ScriptKind
-txn_line s [] = Ok (record s { block = in_txn [] })
-txn_line s (word ∷ words) = Err kinds.Count
+unfoldable pub txn_words : List Word → Result Block ScriptKind
+txn_words [] = Ok (in_txn [])
+txn_words _ = Err kinds.Count
 
 -- `read SESSION`
-unfoldable pub read_words : List Word → Result ℕ ScriptKind
-read_words [] = Err kinds.Count
-read_words (session ∷ []) = session_in session
-read_words (session ∷ word ∷ words) = Err kinds.Count
+unfoldable pub read_words : List Word → Result Block ScriptKind
+read_words (word ∷ []) = session_in word >>= λ session. Ok (in_read session [])
+read_words _ = Err kinds.Count
 
--- at most 256 read blocks
-unfoldable pub read_line : ScriptSoFar → List Word → Result ScriptSoFar ScriptKind
-read_line s words = if nat_le 256 (length s.reads) then Err kinds.Limit else (read_words words >>= λ session. Ok (record s { block = in_read session [] }))
+-- behind so many read blocks, at most 256 in all
+unfoldable pub read_line : ℕ → List Word → Result Block ScriptKind
+read_line count words = if nat_le 256 count then Err kinds.Limit else read_words words
 
 -- `turns WORD ..`
-unfoldable pub turns_words : ScriptSoFar → List Word → Result ScriptSoFar ScriptKind
-turns_words s [] = Err kinds.Count
-turns_words s (word ∷ words) = each_in turn_in (word ∷ words) >>= λ new. Ok (record s { turns = s.turns ++ new })
+unfoldable pub turns_words : List Word → Result (List TurnWord) ScriptKind
+turns_words [] = Err kinds.Count
+turns_words (word ∷ words) = each_in turn_in (word ∷ words)
 
--- at most 65,536 turn words in all
-unfoldable pub turns_line : ScriptSoFar → List Word → Result ScriptSoFar ScriptKind
-turns_line s words = if nat_lt 65536 (length s.turns + length words) then Err kinds.Limit else turns_words s words
+-- behind so many turn words, at most 65,536 in all
+unfoldable pub turns_line : ℕ → List Word → Result (List TurnWord) ScriptKind
+turns_line count words = if nat_lt 65536 (count + length words) then Err kinds.Limit else turns_words words
 
--- a table is known before the first transaction, read block or schedule; the others once a table stands
+-- a line that is known once a table stands
+unfoldable pub standing_line : ScriptSoFar → List ℕ → List Word → Result ScriptSoFar ScriptKind
+standing_line s first words =
+    if bytes_eq first (codes "txn") then (txn_words words >>= λ block. Ok (record s { block = block }))
+    else (if bytes_eq first (codes "read") then (read_line (length s.reads) words >>= λ block. Ok (record s { block = block }))
+    else (if bytes_eq first (codes "turns") then (turns_line (length s.turns) words >>= λ new. Ok (record s { turns = s.turns ++ new }))
+    else Err kinds.Word))
+
+-- a table is known before the first transaction, read block or schedule
 unfoldable pub outside_line : ScriptSoFar → List ℕ → List Word → Result ScriptSoFar ScriptKind
 outside_line s first words =
     if bytes_eq first (codes "table") && is_heading s then (table_line s.tables words >>= λ new. Ok (record s { tables = s.tables ++ new ∷ [] }))
-    else (if bytes_eq first (codes "txn") && has_table s then txn_line s words
-    else (if bytes_eq first (codes "read") && has_table s then read_line s words
-    else (if bytes_eq first (codes "turns") && has_table s then turns_line s words
-    else Err kinds.Word)))
+    else (if has_table s then standing_line s first words
+    else Err kinds.Word)
 
 -- ---- in a transaction
 
@@ -174,16 +180,24 @@ end_line (in_read session []) s words = Err kinds.Limit
 end_line (in_read session (line ∷ lines)) s [] = Ok (record s { reads = s.reads ++ record { session = session; lines = line ∷ lines } ∷ []; block = outside })
 end_line (in_read session (line ∷ lines)) s (word ∷ words) = Err kinds.Count
 
-unfoldable pub other_line : Block → ScriptSoFar → List ℕ → List Word → Result ScriptSoFar ScriptKind
-other_line outside s first words = outside_line s first words
-other_line (in_txn statements) s first words = statement_line s.tables (length statements) first words >>= λ new. Ok (record s { block = in_txn (statements ++ new ∷ []) })
-other_line (in_read session lines) s first words = question_line s.tables (length lines) first words >>= λ new. Ok (record s { block = in_read session (lines ++ new ∷ []) })
+-- a line of a transaction or of a read block that doesn't close it
+unfoldable pub inside_line : Block → List TableDef → List ℕ → List Word → Result Block ScriptKind
+inside_line outside tables first words = Err kinds.Word
+inside_line (in_txn statements) tables first words = statement_line tables (length statements) first words >>= λ new. Ok (in_txn (statements ++ new ∷ []))
+inside_line (in_read session lines) tables first words = question_line tables (length lines) first words >>= λ new. Ok (in_read session (lines ++ new ∷ []))
+
+-- a line whose first word is this one
+unfoldable pub known_line : ScriptSoFar → List ℕ → List Word → Result ScriptSoFar ScriptKind
+known_line s first words =
+    if bytes_eq first (codes "end") then end_line s.block s words
+    else (if is_outside s.block then outside_line s first words
+    else (inside_line s.block s.tables first words >>= λ block. Ok (record s { block = block })))
 
 -- what has been read after a line of these words, or the kind of the first test that the line fails
 unfoldable pub after_line : ScriptSoFar → List Word → Result ScriptSoFar ScriptKind
 after_line s [] = Ok s
 after_line s (quoted text ∷ words) = Err kinds.Word
-after_line s (bare first ∷ words) = if bytes_eq first (codes "end") then end_line s.block s words else other_line s.block s first words
+after_line s (bare first ∷ words) = known_line s first words
 
 -- ---- a line of a script that a log follows
 
