@@ -35,6 +35,10 @@ table_words tables _ = Err kinds.Count
 unfoldable pub table_line : List TableDef → List Word → Result TableDef ScriptKind
 table_line tables words = if nat_le 16 (length tables) || nat_lt 9 (length words) then Err kinds.Limit else table_words tables words
 
+-- a line that adds a table
+unfoldable pub heading_line : ScriptSoFar → List Word → Result ScriptSoFar ScriptKind
+heading_line s words = table_line s.tables words >>= λ new. Ok (record s { tables = s.tables ++ new ∷ [] })
+
 -- `txn`
 unfoldable pub txn_words : List Word → Result Block ScriptKind
 txn_words [] = Ok (in_txn [])
@@ -69,7 +73,7 @@ standing_line s first words =
 -- a table is known before the first transaction, read block or schedule
 unfoldable pub outside_line : ScriptSoFar → List ℕ → List Word → Result ScriptSoFar ScriptKind
 outside_line s first words =
-    if bytes_eq first (codes "table") && is_heading s then (table_line s.tables words >>= λ new. Ok (record s { tables = s.tables ++ new ∷ [] }))
+    if bytes_eq first (codes "table") && is_heading s then heading_line s words
     else (if has_table s then standing_line s first words
     else Err kinds.Word)
 

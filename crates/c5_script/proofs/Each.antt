@@ -6,9 +6,12 @@ use Rattle.c5_rows.specs.declared.cells.CellType.{CellType}
 use Rattle.c5_rows.specs.declared.cells.Cell.{Cell}
 use Rattle.c5_definitions.specs.declared.script.ScriptKind.{ScriptKind}
 use Rattle.c5_definitions.specs.declared.script.ScriptKind.TheVariants as kinds
+use Rattle.c5_definitions.specs.declared.script.TurnWord.{TurnWord}
+use Rattle.c5_definitions.specs.ScriptParts.{ScriptParts}
+use Rattle.c5_script.specs.Partial.{with_turns}
 use Rattle.c5_definitions.specs.Steps.{◌>>=◌}
 use Rattle.c5_definitions.specs.Words.{Word}
-use Rattle.c5_definitions.specs.Places.{each_in, cell_in, cells_in, row_in}
+use Rattle.c5_definitions.specs.Places.{turn_in, each_in, cell_in, cells_in, row_in}
 
 -- what was read before, and what is still read
 abbrev pub with_front : {A : Type 0} → List A → Result (List A) ScriptKind → Result (List A) ScriptKind
@@ -117,3 +120,40 @@ row-read view columns xs e = rw (length-map xs view, eq-eqb (length xs) (length 
 pub is_chosen : {A : Type 0} (b : Bool) (x y : A) → Some y ≡ cond b (Some x) None → y ≡ x
 is_chosen true x y e = cc
 is_chosen false x y e = absurd cc
+
+-- ---- turn words, which are added to a script one by one
+
+abbrev with_turn : ScriptParts → TurnWord → ScriptParts
+with_turn script word = record { tables = script.tables; bodies = script.bodies; reads = script.reads; turns = script.turns ++ word ∷ [] }
+
+one_turn : (script : ScriptParts) (word : TurnWord) (read : Result (List TurnWord) ScriptKind) → with_turns script (before_items read word) ≡ with_turns (with_turn script word) read
+one_turn script word (Ok others) = ap (λ (all : List TurnWord). Ok (record { tables = script.tables; bodies = script.bodies; reads = script.reads; turns = all })) (sym (append_assoc script.turns (word ∷ []) others))
+one_turn script word (Err kind) = refl
+
+pub turns-more : {H : Type 0} (view : H → Word) (xs : List H) (i : ℕ) (d : H) (script after : ScriptParts) (word : TurnWord) (total : Result ScriptParts ScriptKind)
+    → i < length xs → Ok word ≡ turn_in (view (get_or xs i d)) → after ≡ with_turn script word
+    → with_turns script (each_in turn_in (map view (drop i xs))) ≡ total → with_turns after (each_in turn_in (map view (drop (i + 1) xs))) ≡ total
+turns-more view xs i d script after word total lt read same so_far =
+    let others = each_in turn_in (map view (drop (i + 1) xs)) in
+    ap (λ (s : ScriptParts). with_turns s others) same
+    ∙ sym (one_turn script word others)
+    ∙ ap (λ (first : Result TurnWord ScriptKind). with_turns script (first >>= before_items others)) read
+    ∙ sym (ap (with_turns script) (each-step view turn_in xs i d lt))
+    ∙ so_far
+
+pub turns-fail : {H : Type 0} (view : H → Word) (xs : List H) (i : ℕ) (d : H) (script : ScriptParts) (kind : ScriptKind) (total : Result ScriptParts ScriptKind)
+    → i < length xs → Err kind ≡ turn_in (view (get_or xs i d))
+    → with_turns script (each_in turn_in (map view (drop i xs))) ≡ total → total ≡ Err kind
+turns-fail view xs i d script kind total lt read so_far =
+    let others = each_in turn_in (map view (drop (i + 1) xs)) in
+    sym so_far
+    ∙ ap (with_turns script) (each-step view turn_in xs i d lt)
+    ∙ sym (ap (λ (first : Result TurnWord ScriptKind). with_turns script (first >>= before_items others)) read)
+
+pub turns-all : {H : Type 0} (view : H → Word) (xs : List H) (i : ℕ) (script : ScriptParts) (total : Result ScriptParts ScriptKind) → length xs ≤ i
+    → with_turns script (each_in turn_in (map view (drop i xs))) ≡ total → total ≡ Ok script
+unfolding each_in
+turns-all view xs i script total le so_far =
+    sym so_far
+    ∙ ap (λ (ys : List _). with_turns script (each_in turn_in (map view ys))) (drop_all i xs le)
+    ∙ ap (λ (all : List TurnWord). Ok (record { tables = script.tables; bodies = script.bodies; reads = script.reads; turns = all })) (append-nil script.turns)

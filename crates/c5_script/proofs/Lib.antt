@@ -6,3 +6,4 @@ pub mod ParseLaws
 pub mod ScriptLemmas
 pub mod WordLaws
 pub mod Shapes
+pub mod FitsLines

@@ -1,8 +1,11 @@
 -- A script that is read in part, as it is held.
-use Rattle.std.specs.Prelude.{◌≡◌, ◌≤◌, ◌<◌, ℕ, List, [], length, Option, Some, None, Result, Ok, Err}
+use Rattle.std.specs.Prelude.{◌≡◌, ◌≤◌, ◌<◌, ℕ, List, [], ◌++◌, length, Option, Some, None, Result, Ok, Err}
 use Rattle.c5_rows.specs.declared.tables.TableDef.{TableDef}
 use Rattle.c5_definitions.specs.declared.script.Statement.{Statement}
 use Rattle.c5_definitions.specs.declared.script.ReadLine.{ReadLine}
+use Rattle.c5_definitions.specs.declared.script.TurnWord.{TurnWord}
+use Rattle.c5_definitions.specs.declared.script.ScriptKind.{ScriptKind}
+use Rattle.c5_definitions.specs.Steps.{◌>>=◌}
 use Rattle.c5_definitions.specs.ScriptParts.{ReadParts, ScriptParts}
 use Rattle.c5_definitions.specs.ScriptSoFar.{ScriptSoFar, Block, outside, in_txn, in_read}
 use Rattle.c5_definitions.specs.FitsScript.{BodyFits, ReadFits}
@@ -34,3 +37,7 @@ BlockFits None block = ⊥
 BlockFits (Some script) (Txn body) = BodyFits script.tables body
 BlockFits (Some script) (Opened session) = FitsAsRead script session []
 BlockFits (Some script) (Read read) = FitsAsRead script read.session read.lines
+
+-- the script with more turn words
+abbrev pub with_turns : ScriptParts → Result (List TurnWord) ScriptKind → Result ScriptParts ScriptKind
+with_turns script read = read >>= λ new. Ok (record { tables = script.tables; bodies = script.bodies; reads = script.reads; turns = script.turns ++ new })

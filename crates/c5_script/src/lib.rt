@@ -4,10 +4,12 @@
 mod block;
 mod blocks;
 mod bodies;
+mod closing;
 mod fault;
 mod front_parsing;
 mod headings;
 mod lines;
+mod inside;
 mod lists;
 mod numerals;
 mod parsing;

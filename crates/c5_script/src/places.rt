@@ -1,6 +1,6 @@
 //! The test of a word by its place on the line.
 
-ghost use Rattle.std.specs.Prelude.{◌≡◌, ◌≤◌, length};
+ghost use Rattle.std.specs.Prelude.{◌≡◌, ◌≤◌, None, length, IfOk};
 ghost use Rattle.c5_definitions.specs.Numerals.{turn_number_of};
 ghost use Rattle.c5_rows.specs.Tables.{IsSchema, table_of};
 ghost use Rattle.c5_definitions.specs.Places.{new_name_in, type_in, table_in, key_in, row_name_in, number_in, cell_in, found_or, columns_of, column_in, rel_in, session_in, turn_in, int_column_of};
@@ -28,7 +28,8 @@ fn number_named(tables: &[TableDef], name: &[u8]) -> Option<u8>
 #[tactic(auto, unfolding(c5_definitions::specs::Places::new_name_in))]
 pub(crate) fn new_name(tables: &[TableDef], word: Word) -> Result<TableName, ScriptKind>
     requires { length tables.now ≤ 16 }
-    ensures { result ≡ new_name_in tables.now (word_of word.entry) }
+    ensures value { result ≡ new_name_in tables.now (word_of word.entry) }
+    ensures new { IfOk result (λ name. table_of name tables.now ≡ None) }
 {
     let Word::Bare(bytes) = word else {
         return Err(ScriptKind::Name);
@@ -36,7 +37,7 @@ pub(crate) fn new_name(tables: &[TableDef], word: Word) -> Result<TableName, Scr
     let Ok(name) = TableName::new(bytes) else {
         return Err(ScriptKind::Name);
     };
-    match number_named(tables, bytes) {
+    match number_named(tables, name.bytes()) {
         Some(_) => Err(ScriptKind::Name),
         None => Ok(name),
     }
@@ -213,7 +214,8 @@ pub(crate) fn rel(word: Word) -> Result<Rel, ScriptKind>
 /// A session.
 #[tactic(auto, unfolding(c5_definitions::specs::Places::session_in))]
 pub(crate) fn session(word: Word) -> Result<u32, ScriptKind>
-    ensures { result ≡ session_in (word_of word.entry) }
+    ensures value { result ≡ session_in (word_of word.entry) }
+    ensures range { IfOk result (λ session. (1 ≤ session) × (session ≤ 16)) }
 {
     let number = number(word)?;
     if number >= 1 && number <= 16 {

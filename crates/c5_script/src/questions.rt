@@ -1,6 +1,7 @@
 //! The lines of a read block.
 
-ghost use Rattle.std.specs.Prelude.{◌≡◌, ◌≤◌, ◌<◌, ◌∷◌, [], length};
+ghost use Rattle.std.specs.Prelude.{◌≡◌, ◌≤◌, ◌<◌, ◌∷◌, [], length, IfOk, OnOk};
+ghost use Rattle.c5_definitions.specs.FitsScript.{ReadLineFits};
 ghost use Rattle.c5_definitions.specs.Statements.{row_words, sum_words, question_line};
 ghost use Rattle.c5_script.specs.Words.{word_of, words_of};
 
@@ -67,7 +68,9 @@ pub(crate) fn question(
     words: &[Word],
 ) -> Result<ReadLine, ScriptKind>
     requires { length tables.now ≤ 16 }
-    ensures { result ≡ question_line tables.now count first.now (words_of words.now) }
+    ensures value { result ≡ question_line tables.now count first.now (words_of words.now) }
+    ensures fits { IfOk result (λ line. ReadLineFits tables.now line) }
+    ensures room { OnOk result (count < 16) }
 {
     if first == b"row".as_slice() {
         if count >= MOST_LINES {

@@ -1,6 +1,7 @@
 //! The statements of a transaction.
 
-ghost use Rattle.std.specs.Prelude.{◌≡◌, ◌≤◌, ◌∷◌, [], length};
+ghost use Rattle.std.specs.Prelude.{◌≡◌, ◌≤◌, ◌<◌, ◌∷◌, [], length, IfOk, OnOk};
+ghost use Rattle.c5_definitions.specs.FitsScript.{StatementFits};
 ghost use Rattle.c5_definitions.specs.Statements.{put_of, put_words, del_words, need_words, add_words, copy_words, form_of, statement_words, statement_line};
 ghost use Rattle.c5_script.specs.Forms.{form_held};
 ghost use Rattle.c5_script.specs.Taking.{Gives};
@@ -191,7 +192,9 @@ pub(crate) fn statement(
     words: &[Word],
 ) -> Result<Statement, ScriptKind>
     requires { length tables.now ≤ 16 }
-    ensures { result ≡ statement_line tables.now count first.now (words_of words.now) }
+    ensures value { result ≡ statement_line tables.now count first.now (words_of words.now) }
+    ensures fits { IfOk result (λ statement. StatementFits tables.now statement) }
+    ensures room { OnOk result (count < 256) }
 {
     let form = form_of(first)?;
     if count >= MOST_STATEMENTS {
