@@ -9,6 +9,8 @@ mod fault;
 mod front_parsing;
 mod headings;
 mod inside;
+#[cfg(test)]
+mod line_tests;
 mod lines;
 mod lists;
 mod numerals;
