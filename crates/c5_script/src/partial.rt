@@ -1,6 +1,6 @@
 //! A script that is read in part.
 
-ghost use Rattle.std.specs.Prelude.{◌≡◌, IsTrue, Some, None, if◌then◌else◌};
+ghost use Rattle.std.specs.Prelude.{◌≡◌, Ok, IsTrue, Some, None, if◌then◌else◌};
 ghost use Rattle.c5_definitions.specs.ScriptSoFar.{script_start, script_of, is_closed, is_outside, has_table};
 ghost use Rattle.c5_definitions.specs.Statements.{end_line, known_line, after_line, is_log_line, after_front_line};
 ghost use Rattle.c5_script.specs.Partial.{block_of, so_far, BlockFits};
@@ -148,7 +148,8 @@ impl PartialScript {
     /// with the kind of the first. What has been read after an `Err` isn't said.
     #[tactic(auto, unfolding(c5_definitions::specs::Statements::after_front_line, c5_definitions::specs::Statements::log_line))]
     pub(crate) fn take_front_line(&mut self, words: &[Word]) -> Result<Taken, LineError>
-        ensures { StepsTo (front_line_of self.new) result (after_front_line self.old (words_of words.now)) }
+        ensures step { StepsTo (front_line_of self.new) result (after_front_line self.old (words_of words.now)) }
+        ensures log { result ≡ Ok Taken.Log → self.new ≡ self.old }
     {
         if self.is_log_line(words) {
             return match words {
