@@ -11,7 +11,16 @@ pub mod Spelling
 pub mod Frames
 pub mod Items
 pub mod ScriptParts
+pub mod FitsScript
 pub mod Words
+pub mod Lines
+pub mod LineGrammar
+pub mod ScriptSoFar
+pub mod Numerals
+pub mod Places
+pub mod Statements
+pub mod Script
 pub mod Lawful
 pub mod Texts
 pub mod Worked
+pub mod WorkedScripts

@@ -5,6 +5,7 @@
 mod fault;
 mod keys;
 mod script;
+mod scripts_worked;
 
 ghost use Rattle.std.specs.Prelude.{◌≡◌};
 ghost use Rattle.std.specs.FinMap.{empty};
@@ -17,6 +18,9 @@ ghost use Rattle.c5_definitions.specs.Worked.{worked_tables, worked_txns, worked
 pub use fault::{LogFault, LogKind};
 pub use keys::Keys;
 pub use script::{ReadLine, Rel, ScriptFault, ScriptKind, Statement, TurnWord};
+pub use scripts_worked::{
+    lines_read_back, words_read_back, worked_fronts, worked_script_faults, worked_scripts,
+};
 
 /// The bytes of a log that was worked by hand are its spelling.
 pub fn worked_log()

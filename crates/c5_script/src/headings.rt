@@ -1,0 +1,238 @@
+//! Lines outside blocks.
+
+ghost use Rattle.std.specs.Prelude.{◌≡◌, ◌≤◌, ◌<◌, ◌++◌, ◌∷◌, [], None, Some, IsTrue, length, IfOk, OnOk};
+ghost use Rattle.c5_rows.specs.Tables.{table_of as number_of};
+ghost use Rattle.c5_definitions.specs.ScriptSoFar.{in_txn, in_read, is_heading};
+ghost use Rattle.c5_definitions.specs.Places.{turn_in, each_in};
+ghost use Rattle.c5_definitions.specs.Statements.{table_of, table_words, table_line, heading_line, outside_line, txn_words, read_words, read_line, turns_words, turns_line, standing_line};
+ghost use Rattle.c5_script.specs.Partial.{so_far, with_turns, BlockFits};
+ghost use Rattle.c5_script.specs.Taking.{Gives, StepsTo};
+ghost use Rattle.c5_script.specs.Words.{word_of, words_of};
+
+use crate::block::OpenBlock;
+use crate::bodies::Body;
+use crate::fault::LineError;
+use crate::lists::column_types;
+use crate::places::{new_name, session, turn};
+use crate::script::Script;
+use crate::word::Word;
+use c5_definitions::ScriptKind;
+use c5_rows::{Schema, TableDef};
+use std::alloc::Global;
+
+/// How many tables a script has at most.
+const MOST_TABLES: usize = 16;
+
+/// How many words the line of a table has at most behind its first one: its name and 8 types.
+const MOST_TABLE_WORDS: usize = 9;
+
+/// How many read blocks a script has at most.
+const MOST_READS: usize = 256;
+
+#[tactic(auto, unfolding(c5_definitions::specs::Statements::table_of))]
+fn table_of(tables: &[TableDef], word: Word, types: &[Word]) -> Result<TableDef, ScriptKind>
+    requires tables { length tables.now ≤ 16 }
+    requires some { 1 ≤ length types.now }
+    requires at_most_eight { length types.now ≤ 8 }
+    ensures value { result ≡ table_of tables.now (word_of word.entry) (words_of types.now) }
+    ensures new { IfOk result (λ table. number_of table.name tables.now ≡ None) }
+{
+    let name = new_name(tables, word)?;
+    let columns = column_types(types)?;
+    Ok(TableDef { name, columns })
+}
+
+#[tactic(auto, unfolding(c5_definitions::specs::Statements::table_words))]
+fn table_in(tables: &[TableDef], words: &[Word]) -> Result<TableDef, ScriptKind>
+    requires tables { length tables.now ≤ 16 }
+    requires few { length words.now ≤ 9 }
+    ensures value { result ≡ table_words tables.now (words_of words.now) }
+    ensures new { IfOk result (λ table. number_of table.name tables.now ≡ None) }
+{
+    match words {
+        [] | [_] => Err(ScriptKind::Count),
+        [name, types @ ..] => table_of(tables, *name, types),
+    }
+}
+
+/// The table of a line, which is added to these.
+#[tactic(auto, unfolding(c5_definitions::specs::Statements::table_line))]
+pub(crate) fn new_table(tables: &[TableDef], words: &[Word]) -> Result<TableDef, ScriptKind>
+    requires { length tables.now ≤ 16 }
+    ensures value { result ≡ table_line tables.now (words_of words.now) }
+    ensures new { IfOk result (λ table. number_of table.name tables.now ≡ None) }
+    ensures room { OnOk result (length tables.now < 16) }
+{
+    if tables.len() >= MOST_TABLES || words.len() > MOST_TABLE_WORDS {
+        return Err(ScriptKind::Limit);
+    }
+    table_in(tables, words)
+}
+
+// Whether a line may open a transaction.
+#[tactic(auto, unfolding(c5_definitions::specs::Statements::txn_words))]
+fn check_txn(words: &[Word]) -> Result<(), ScriptKind>
+    ensures { Gives (λ _. in_txn []) result (txn_words (words_of words.now)) }
+{
+    match words {
+        [] => Ok(()),
+        _ => Err(ScriptKind::Count),
+    }
+}
+
+#[tactic(auto, unfolding(c5_definitions::specs::Statements::read_words))]
+fn read_of(words: &[Word]) -> Result<u32, ScriptKind>
+    ensures read { Gives (λ session. in_read session []) result (read_words (words_of words.now)) }
+    ensures session { IfOk result (λ session. (1 ≤ session) × (session ≤ 16)) }
+{
+    match words {
+        [word] => session(*word),
+        _ => Err(ScriptKind::Count),
+    }
+}
+
+/// The session of a read block that a line opens behind `count` others.
+#[tactic(auto, unfolding(c5_definitions::specs::Statements::read_line))]
+pub(crate) fn new_read(count: usize, words: &[Word]) -> Result<u32, ScriptKind>
+    ensures read { Gives (λ session. in_read session []) result (read_line count (words_of words.now)) }
+    ensures session { IfOk result (λ session. (1 ≤ session) × (session ≤ 16)) }
+    ensures room { OnOk result (count < 256) }
+{
+    if count >= MOST_READS {
+        return Err(ScriptKind::Limit);
+    }
+    read_of(words)
+}
+
+/// How many turn words a script has at most.
+const MOST_TURNS: usize = 65536;
+
+fn push_turns(script: &mut Script, words: &[Word]) -> Result<(), LineError>
+    ensures { StepsTo (λ _. script.new) result (with_turns script.old (each_in turn_in (words_of words.now))) }
+{
+    for word in words {
+        let turn = turn(*word)?;
+        script.push_turn(turn)?;
+    }
+    Ok(())
+}
+
+#[tactic(auto, unfolding(c5_definitions::specs::Statements::turns_words))]
+fn turns_in(script: &mut Script, words: &[Word]) -> Result<(), LineError>
+    ensures { StepsTo (λ _. script.new) result (with_turns script.old (turns_words (words_of words.now))) }
+{
+    match words {
+        [] => Err(LineError::Fault(ScriptKind::Count)),
+        [_, ..] => push_turns(script, words),
+    }
+}
+
+/// Adds the words of a line to the schedule.
+#[tactic(auto, unfolding(c5_definitions::specs::Statements::turns_line))]
+pub(crate) fn add_turns(script: &mut Script, words: &[Word]) -> Result<(), LineError>
+    ensures { StepsTo (λ _. script.new) result (with_turns script.old (turns_line (length script.old.turns) (words_of words.now))) }
+{
+    if script.turns().len() + words.len() > MOST_TURNS {
+        return Err(LineError::Fault(ScriptKind::Limit));
+    }
+    turns_in(script, words)
+}
+
+/// Takes a line outside blocks, where a table stands.
+#[tactic(auto, unfolding(c5_definitions::specs::Statements::standing_line))]
+pub(crate) fn add_standing(
+    alloc: Global,
+    script: &mut Script,
+    block: &mut OpenBlock,
+    first: &[u8],
+    words: &[Word],
+) -> Result<(), LineError>
+    requires { block.old ≡ OpenBlock.Outside }
+    ensures step { StepsTo (λ _. so_far (Some script.new) block.new) result (standing_line (so_far (Some script.old) block.old) first.now (words_of words.now)) }
+    ensures fits { BlockFits (Some script.new) block.new }
+{
+    if first == b"txn".as_slice() {
+        check_txn(words)?;
+        *block = OpenBlock::Txn(Body::new(alloc));
+        Ok(())
+    } else if first == b"read".as_slice() {
+        let session = new_read(script.reads().len(), words)?;
+        *block = OpenBlock::Opened(session);
+        Ok(())
+    } else if first == b"turns".as_slice() {
+        add_turns(script, words)
+    } else {
+        Err(LineError::Fault(ScriptKind::Word))
+    }
+}
+
+// The tables so far.
+fn tables_of(script: &Option<Script>) -> &[TableDef]
+    ensures value { result.now ≡ (so_far script.now OpenBlock.Outside).tables }
+    ensures few { length result.now ≤ 16 }
+{
+    match script {
+        Some(script) => script.schema().tables(),
+        None => &[],
+    }
+}
+
+// Whether no transaction, read block or schedule was accepted.
+fn is_heading(script: &Option<Script>) -> bool
+    ensures { result ≡ is_heading (so_far script.now OpenBlock.Outside) }
+{
+    match script {
+        Some(script) => {
+            script.bodies().is_empty() && script.reads().is_empty() && script.turns().is_empty()
+        }
+        None => true,
+    }
+}
+
+// Adds a table.
+fn push_table(alloc: Global, script: &mut Option<Script>, table: TableDef)
+    requires heading { IsTrue (is_heading (so_far script.old OpenBlock.Outside)) }
+    requires room { length (so_far script.old OpenBlock.Outside).tables < 16 }
+    requires new { number_of table.name (so_far script.old OpenBlock.Outside).tables ≡ None }
+    ensures { so_far script.new OpenBlock.Outside ≡ record (so_far script.old OpenBlock.Outside) { tables = (so_far script.old OpenBlock.Outside).tables ++ table ∷ [] } }
+{
+    match script {
+        Some(script) => script.push_table(table),
+        None => *script = Some(Script::new(alloc, Schema::one(table))),
+    }
+}
+
+#[tactic(auto, unfolding(c5_definitions::specs::Statements::heading_line))]
+fn add_table(alloc: Global, script: &mut Option<Script>, words: &[Word]) -> Result<(), LineError>
+    requires { IsTrue (is_heading (so_far script.old OpenBlock.Outside)) }
+    ensures { StepsTo (λ _. so_far script.new OpenBlock.Outside) result (heading_line (so_far script.old OpenBlock.Outside) (words_of words.now)) }
+{
+    let table = new_table(tables_of(script), words)?;
+    push_table(alloc, script, table);
+    Ok(())
+}
+
+/// Takes a line outside blocks.
+#[tactic(auto, unfolding(c5_definitions::specs::Statements::outside_line))]
+pub(crate) fn add_outside(
+    alloc: Global,
+    script: &mut Option<Script>,
+    block: &mut OpenBlock,
+    first: &[u8],
+    words: &[Word],
+) -> Result<(), LineError>
+    requires { block.old ≡ OpenBlock.Outside }
+    ensures step { StepsTo (λ _. so_far script.new block.new) result (outside_line (so_far script.old OpenBlock.Outside) first.now (words_of words.now)) }
+    ensures fits { BlockFits script.new block.new }
+{
+    if first == b"table".as_slice() && is_heading(script) {
+        return add_table(alloc, script, words);
+    }
+    match script {
+        Some(script) => {
+            let _schema = script.schema();
+            add_standing(alloc, script, block, first, words)
+        }
+        None => Err(LineError::Fault(ScriptKind::Word)),
+    }
+}

@@ -1,0 +1,61 @@
+//! Words that stand one behind the other, tested from left to right.
+
+ghost use Rattle.std.specs.Prelude.{◌≡◌, ◌≤◌, ◌<◌, ◌∷◌, length};
+ghost use Rattle.c5_definitions.specs.Places.{type_in, key_in, each_in, row_in};
+ghost use Rattle.c5_script.specs.Words.{word_of, words_of};
+
+use crate::places::{cell, column_type, key};
+use crate::word::Word;
+use c5_definitions::{Keys, ScriptKind};
+use c5_rows::{Cell, CellType, Columns, Row};
+
+/// The types of the columns of a table.
+pub(crate) fn column_types(words: &[Word]) -> Result<Columns, ScriptKind>
+    requires some { 1 ≤ length words.now }
+    requires at_most_eight { length words.now ≤ 8 }
+    ensures { result ≡ each_in type_in (words_of words.now) }
+{
+    let mut types = [CellType::Int; 8];
+    for (column, word) in words.iter().enumerate() {
+        let found = column_type(*word)?;
+        types[column] = found;
+    }
+    match Columns::new(&types[..words.len()]) {
+        Some(columns) => Ok(columns),
+        None => unreachable!(),
+    }
+}
+
+/// The keys of a sum.
+pub(crate) fn keys(first: Word, others: &[Word]) -> Result<Keys, ScriptKind>
+    requires { length others.now < 16 }
+    ensures { result ≡ each_in key_in (word_of first.entry ∷ words_of others.now) }
+{
+    let first_key = key(first)?;
+    let mut keys = Keys::one(first_key);
+    for word in others {
+        let next = key(*word)?;
+        keys.push(next);
+    }
+    Ok(keys)
+}
+
+/// The cells of a row, one for each column.
+pub(crate) fn row(columns: &[CellType], words: &[Word]) -> Result<Row, ScriptKind>
+    requires some { 1 ≤ length words.now }
+    requires at_most_eight { length columns.now ≤ 8 }
+    ensures { result ≡ row_in columns.now (words_of words.now) }
+{
+    if words.len() != columns.len() {
+        return Err(ScriptKind::Count);
+    }
+    let mut cells = [Cell::Int(0); 8];
+    for (column, word) in words.iter().enumerate() {
+        let found = cell(columns[column], *word)?;
+        cells[column] = found;
+    }
+    match Row::new(&cells[..words.len()]) {
+        Some(row) => Ok(row),
+        None => unreachable!(),
+    }
+}
