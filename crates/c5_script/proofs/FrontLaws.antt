@@ -1,16 +1,15 @@
 -- Reading line by line up to the line that ends a script.
-use Rattle.std.proofs.Common.{◌≡◌, ◌∙◌, ◌+◌, ◌-◌, ◌≤◌, ◌&&◌, ℕ, zero, suc, Bool, true, false, eqb, List, [], ◌∷◌, Option, Some, None, Result, Ok, Err, refl, ap, sym, subst, add-one, arith, if◌then◌else◌}
-use Rattle.std.proofs.lemmas.Grind.{common_steps}
+use Rattle.std.proofs.Common.{◌≡◌, ◌∙◌, ◌+◌, ◌-◌, ◌≤◌, ◌&&◌, ℕ, zero, suc, Bool, true, false, eqb, List, [], ◌∷◌, Option, Some, None, Result, Ok, Err, refl, ap, sym, arith, if◌then◌else◌}
 use Rattle.c5_definitions.specs.declared.script.ScriptKind.{ScriptKind}
 use Rattle.c5_definitions.specs.declared.script.ScriptKind.TheVariants as kinds
 use Rattle.c5_definitions.specs.declared.script.ScriptFault.{ScriptFault}
 use Rattle.c5_definitions.specs.Steps.{◌>>=◌}
 use Rattle.c5_definitions.specs.Words.{Word, bare, quoted}
 use Rattle.c5_definitions.specs.ScriptParts.{ScriptParts}
-use Rattle.c5_definitions.specs.ScriptSoFar.{ScriptSoFar, Block, script_start, is_outside, has_table, is_closed, script_of as parts_of}
+use Rattle.c5_definitions.specs.ScriptSoFar.{ScriptSoFar, script_start, is_outside, has_table, is_closed, script_of as parts_of}
 use Rattle.c5_definitions.specs.Lines.{lines_of, behind_lines, words_of}
 use Rattle.c5_definitions.specs.Statements.{FrontLine, goes_on, log_follows, is_log_line, log_line, after_line, after_front_line}
-use Rattle.c5_definitions.specs.Script.{on_line, fault_on, after_front_numbered, front_from, front_of}
+use Rattle.c5_definitions.specs.Script.{on_line, after_front_numbered, front_from, front_of}
 use Rattle.c5_script.specs.declared.parsing.ParseFault.{ParseFault}
 use Rattle.c5_script.specs.declared.parsing.ParseFault.TheVariants as faults
 use Rattle.c5_script.specs.Parsing.{ParseFails}

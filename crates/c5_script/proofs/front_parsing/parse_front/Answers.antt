@@ -1,11 +1,11 @@
-use Rattle.std.proofs.Common.{◌≡◌, ◌∙◌, ◌+◌, ◌-◌, ◌≤◌, ℕ, List, [], length, Option, Some, None, Ok, refl, ap, sym, subst, arith, if◌then◌else◌}
+use Rattle.std.proofs.Common.{◌≡◌, ◌∙◌, ◌+◌, ◌-◌, ℕ, List, [], Some, None, Ok, refl, ap, sym, arith, if◌then◌else◌}
 use Rattle.std.proofs.lemmas.Bool.{eqb-true}
 use Rattle.std.proofs.lemmas.List.{nil_from_length}
 use Rattle.std.proofs.lemmas.Result.{err_from_is_err_and}
 use Rattle.c5_definitions.specs.ScriptParts.{ScriptParts}
 use Rattle.c5_definitions.specs.ScriptSoFar.{ScriptSoFar, is_closed, script_of as parts_of}
 use Rattle.c5_definitions.specs.Lines.{lines_of, behind_lines}
-use Rattle.c5_definitions.specs.Script.{front_from, front_of}
+use Rattle.c5_definitions.specs.Script.{front_from}
 use Rattle.c5_script.specs.declared.partial.Taken.{Taken}
 use Rattle.c5_script.specs.Front.{front_line_of}
 use Rattle.c5_script.proofs.FrontLaws.{behind-next, front-starts, front-goes, front-fails, front-unclosed, front-ends, log-finishes}

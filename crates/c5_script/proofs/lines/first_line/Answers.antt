@@ -1,6 +1,4 @@
-use Rattle.std.proofs.Common.{◌∙◌, ◌+◌, ap, sym, ◌∷◌, List, ℕ, drop}
 use Rattle.std.proofs.lemmas.List.{take_rest}
-use Rattle.c5_definitions.specs.Lines.{lines_of}
 use Rattle.c5_script.proofs.LineLaws.{lines-Some, behind-Some, lines-None, behind-None}
 use Rattle.c5_script.proofs.lines.first_line.Goals as goal
 

@@ -1,11 +1,9 @@
-use Rattle.std.proofs.Common.{◌≡◌, ◌∙◌, ◌+◌, ◌≤◌, ℕ, List, [], length, ap, sym, subst, arith}
+use Rattle.std.proofs.Common.{◌≡◌, ◌∙◌, ℕ, List, [], ap, sym, arith}
 use Rattle.std.proofs.lemmas.Bool.{eqb-true}
 use Rattle.std.proofs.lemmas.List.{nil_from_length}
 use Rattle.std.proofs.lemmas.Result.{err_from_is_err_and}
 use Rattle.c5_definitions.specs.Lines.{lines_of}
-use Rattle.c5_definitions.specs.Script.{script_from, script_of}
-use Rattle.c5_script.specs.Parsing.{ParseFails}
-use Rattle.c5_script.proofs.WordLaws.{not-empty}
+use Rattle.c5_definitions.specs.Script.{script_from}
 use Rattle.c5_script.proofs.ParseLaws.{script-starts, script-goes, script-fails, script-ends, script-unclosed}
 use Rattle.c5_script.proofs.parsing.parse.Goals as goal
 

@@ -1,4 +1,4 @@
-use Rattle.std.proofs.Common.{◌≡◌, ◌∙◌, ◌+◌, ℕ, List, get_or, take, drop, sym, subst}
+use Rattle.std.proofs.Common.{◌≡◌, ℕ, List, get_or, subst}
 use Rattle.c5_script.proofs.WordLaws.{bare-None, bare-Some_quote, bare-Some_blank}
 use Rattle.c5_script.proofs.words.bare_in.Goals as goal
 

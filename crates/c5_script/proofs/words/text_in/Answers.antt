@@ -1,4 +1,4 @@
-use Rattle.std.proofs.Common.{◌≡◌, ◌∙◌, ◌+◌, ℕ, List, true, false, take, drop, sym, ap}
+use Rattle.std.proofs.Common.{◌≡◌, ◌∙◌, ◌+◌, true, false, take, drop, sym, ap}
 use Rattle.std.proofs.lemmas.List.{take_rest}
 use Rattle.c5_definitions.specs.Words.{quoted}
 use Rattle.c5_definitions.specs.Lines.{is_word_end, with_word}

@@ -1,7 +1,6 @@
-use Rattle.std.proofs.Common.{◌≡◌, ◌∙◌, ◌≤◌, ℕ, List, [], length, ap, sym, arith}
+use Rattle.std.proofs.Common.{◌≡◌, ◌∙◌, ℕ, List, [], ap, sym}
 use Rattle.std.proofs.lemmas.Bool.{eqb-true}
 use Rattle.std.proofs.lemmas.List.{nil_from_length}
-use Rattle.c5_definitions.specs.Words.{Word}
 use Rattle.c5_definitions.specs.Lines.{words_at, between}
 use Rattle.c5_script.specs.Words.{words_of as held_words}
 use Rattle.c5_script.specs.Reading.{with_words}
