@@ -12,6 +12,7 @@ pub mod Frames
 pub mod Items
 pub mod ScriptParts
 pub mod FitsScript
+pub mod Limits
 pub mod Words
 pub mod Lawful
 pub mod Texts
