@@ -11,6 +11,7 @@ pub mod Spelling
 pub mod Frames
 pub mod Items
 pub mod ScriptParts
+pub mod FitsScript
 pub mod Words
 pub mod Lawful
 pub mod Texts

@@ -1,0 +1,77 @@
+-- Which statements and lines of read blocks fit tables, and what a script is.
+use Rattle.std.specs.Prelude.{◌≡◌, ◌≤◌, ◌<◌, ℕ, List, length, map, MatchOption, slice_get, Some}
+use Rattle.std.specs.List.{AllByRecursion}
+use Rattle.c5_rows.specs.Bytes.{IsKey}
+use Rattle.c5_rows.specs.Cells.{type_of}
+use Rattle.c5_rows.specs.Tables.{IsSchema}
+use Rattle.c5_rows.specs.declared.cells.Cell.{Cell}
+use Rattle.c5_rows.specs.declared.cells.CellType.TheVariants as types
+use Rattle.c5_rows.specs.declared.tables.TableDef.{TableDef}
+use Rattle.c5_definitions.specs.Lawful.{IsLawfulCell}
+use Rattle.c5_definitions.specs.ScriptParts.{ReadParts, ScriptParts}
+use Rattle.c5_definitions.specs.declared.script.Statement.{Statement}
+use Rattle.c5_definitions.specs.declared.script.Statement.TheVariants.{Put, Del, Need, Add, Copy}
+use Rattle.c5_definitions.specs.declared.script.ReadLine.{ReadLine}
+use Rattle.c5_definitions.specs.declared.script.ReadLine.TheVariants.{OneRow, SumOf}
+
+-- there is a table of this number
+abbrev pub HasTable : List TableDef → ℕ → Type 0
+HasTable tables table = table < length tables
+
+-- the cells have the types of this table's columns
+abbrev pub HasRow : List TableDef → ℕ → List Cell → Type 0
+HasRow tables table row = MatchOption (slice_get tables table) ⊥ (λ found. map type_of row ≡ found.columns)
+
+-- this column of this table is an Int column
+abbrev pub HasIntColumn : List TableDef → ℕ → ℕ → Type 0
+HasIntColumn tables table col = MatchOption (slice_get tables table) ⊥ (λ found. slice_get found.columns col ≡ Some types.Int)
+
+-- the tables have what the statement names
+abbrev pub StatementFits : List TableDef → Statement → Type 0
+StatementFits tables (Put name row) = HasRow tables name.table row
+StatementFits tables (Del name) = HasTable tables name.table
+StatementFits tables (Need name col rel n) = HasIntColumn tables name.table col
+StatementFits tables (Add name col n) = HasIntColumn tables name.table col
+StatementFits tables (Copy from to) = HasTable tables from.table × (from.table ≡ to.table)
+
+-- the tables have what the line of a read block names
+abbrev pub ReadLineFits : List TableDef → ReadLine → Type 0
+ReadLineFits tables (OneRow name) = HasTable tables name.table
+ReadLineFits tables (SumOf table col keys) = HasIntColumn tables table col
+
+-- every statement of a body fits
+abbrev pub BodyFits : List TableDef → List Statement → Type 0
+BodyFits tables body = AllByRecursion (StatementFits tables) body
+
+-- every line of a read block fits
+abbrev pub ReadFits : List TableDef → ReadParts → Type 0
+ReadFits tables read = AllByRecursion (ReadLineFits tables) read.lines
+
+-- the keys of a statement are keys, and its cells are lawful
+abbrev pub IsStatement : Statement → Type 0
+IsStatement (Put name row) = IsKey name.key × AllByRecursion IsLawfulCell row
+IsStatement (Del name) = IsKey name.key
+IsStatement (Need name col rel n) = IsKey name.key
+IsStatement (Add name col n) = IsKey name.key
+IsStatement (Copy from to) = IsKey from.key × IsKey to.key
+
+-- at most 256 statements
+pub record IsBody (body : List Statement) : Type 0 where
+  pub at_most_256 : length body ≤ 256
+  pub each : AllByRecursion IsStatement body
+
+-- a session from 1 to 16 asks 1 to 16 lines
+pub record IsRead (read : ReadParts) : Type 0 where
+  pub session_some : 1 ≤ read.session
+  pub session_at_most_sixteen : read.session ≤ 16
+  pub some : 1 ≤ length read.lines
+  pub at_most_sixteen : length read.lines ≤ 16
+
+-- bodies and at most 256 read blocks that fit the tables of a schema
+pub record IsScript (script : ScriptParts) : Type 0 where
+  pub schema : IsSchema script.tables
+  pub bodies : AllByRecursion IsBody script.bodies
+  pub bodies_fit : AllByRecursion (BodyFits script.tables) script.bodies
+  pub reads : AllByRecursion IsRead script.reads
+  pub reads_fit : AllByRecursion (ReadFits script.tables) script.reads
+  pub at_most_256_reads : length script.reads ≤ 256

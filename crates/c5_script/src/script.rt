@@ -1,0 +1,133 @@
+//! Whole scripts.
+
+ghost use Rattle.std.specs.Prelude.{◌≡◌, ◌<◌, ◌++◌, ◌∷◌, [], None, length, OnOk, OnErr};
+ghost use Rattle.c5_rows.specs.Tables.{table_of, IsSchema};
+ghost use Rattle.c5_definitions.specs.FitsScript.{IsScript, BodyFits, ReadFits};
+
+use crate::blocks::ReadBlock;
+use crate::bodies::Body;
+use c5_definitions::TurnWord;
+use c5_rows::{NoMemory, Schema, TableDef};
+use std::alloc::Global;
+use std::marker::Model;
+
+/// Tables, bodies of transactions, read blocks and a schedule. Every name, row and column fits the tables.
+#[derive(Debug, Drop)]
+pub struct Script {
+    schema: Schema,
+    bodies: Vec<Body>,
+    reads: Vec<ReadBlock>,
+    turns: Vec<TurnWord>,
+}
+
+impl Model for Script {
+    ghost use Rattle.c5_definitions.specs.ScriptParts.{ScriptParts};
+    ghost use Rattle.c5_definitions.specs.FitsScript.{IsScript};
+
+    ghost Value = { ScriptParts };
+
+    ghost view = { λ s. record { tables = s.schema; bodies = s.bodies.items; reads = s.reads.items; turns = s.turns.items } };
+
+    ghost invariant = { λ s. IsScript (record { tables = s.schema; bodies = s.bodies.items; reads = s.reads.items; turns = s.turns.items }) };
+}
+
+// What the type of a schema says of it.
+fn know_schema(schema: &Schema)
+    ensures { IsSchema schema.now }
+{
+    let _tables = schema.tables();
+}
+
+impl Script {
+    /// A script of these tables, without bodies, read blocks and turn words.
+    pub fn new(alloc: Global, schema: Schema) -> Self
+        ensures { result ≡ record { tables = schema; bodies = []; reads = []; turns = [] } }
+    {
+        know_schema(&schema);
+        Script {
+            schema,
+            bodies: Vec::new(alloc),
+            reads: Vec::new(alloc),
+            turns: Vec::new(alloc),
+        }
+    }
+
+    /// Adds a table at the end.
+    pub(crate) fn push_table(&mut self, table: TableDef)
+        requires no_bodies { self.old.bodies ≡ [] }
+        requires no_reads { self.old.reads ≡ [] }
+        requires room { length self.old.tables < 16 }
+        requires new_name { table_of table.name self.old.tables ≡ None }
+        ensures { self.new ≡ record { tables = self.old.tables ++ table ∷ []; bodies = []; reads = []; turns = self.old.turns } }
+    {
+        match self.schema.push(table) {
+            Ok(()) => know_schema(&self.schema),
+            Err(_) => unreachable!(),
+        }
+    }
+
+    /// Adds a body at the end. After `NoMemory` nothing has changed, and the body is dropped.
+    pub fn push_body(&mut self, body: Body) -> Result<(), NoMemory>
+        requires fits { BodyFits self.old.tables body }
+        ensures ok { OnOk result (self.new ≡ record { tables = self.old.tables; bodies = self.old.bodies ++ body ∷ []; reads = self.old.reads; turns = self.old.turns }) }
+        ensures err { OnErr result (self.new ≡ self.old) }
+    {
+        let mut body = body;
+        body.shrink();
+        self.bodies.push(body)?;
+        Ok(())
+    }
+
+    /// Adds a read block at the end. After `NoMemory` nothing has changed, and the block is dropped.
+    pub fn push_read(&mut self, read: ReadBlock) -> Result<(), NoMemory>
+        requires room { length self.old.reads < 256 }
+        requires fits { ReadFits self.old.tables read }
+        ensures ok { OnOk result (self.new ≡ record { tables = self.old.tables; bodies = self.old.bodies; reads = self.old.reads ++ read ∷ []; turns = self.old.turns }) }
+        ensures err { OnErr result (self.new ≡ self.old) }
+    {
+        let _lines = read.lines();
+        self.reads.push(read)?;
+        Ok(())
+    }
+
+    /// Adds a turn word at the end. After `NoMemory` nothing has changed.
+    pub(crate) fn push_turn(&mut self, word: TurnWord) -> Result<(), NoMemory>
+        ensures ok { OnOk result (self.new ≡ record { tables = self.old.tables; bodies = self.old.bodies; reads = self.old.reads; turns = self.old.turns ++ word ∷ [] }) }
+        ensures err { OnErr result (self.new ≡ self.old) }
+    {
+        self.turns.push(word)?;
+        Ok(())
+    }
+
+    /// The tables.
+    pub fn schema(&self) -> &Schema
+        ensures value { result.now ≡ self.now.tables }
+        ensures script { IsScript self.now }
+    {
+        &self.schema
+    }
+
+    /// The bodies, by their numbers.
+    pub fn bodies(&self) -> &[Body]
+        ensures value { result.now ≡ self.now.bodies }
+        ensures script { IsScript self.now }
+    {
+        &self.bodies
+    }
+
+    /// The read blocks, in order.
+    pub fn reads(&self) -> &[ReadBlock]
+        ensures value { result.now ≡ self.now.reads }
+        ensures script { IsScript self.now }
+    {
+        &self.reads
+    }
+
+    /// The schedule.
+    pub fn turns(&self) -> &[TurnWord]
+        ensures value { result.now ≡ self.now.turns }
+        ensures script { IsScript self.now }
+    {
+        &self.turns
+    }
+}
