@@ -16,4 +16,8 @@ pub mod Limits
 pub mod Words
 pub mod Lawful
 pub mod Texts
+pub mod Statements
+pub mod Eval
+pub mod Follows
+pub mod Answers
 pub mod Worked
