@@ -1,1 +1,3 @@
 pub mod HeldKeys
+pub mod EvalFits
+pub mod EvalCounts

@@ -19,5 +19,7 @@ pub mod Texts
 pub mod Statements
 pub mod Eval
 pub mod Follows
+pub mod SerialRun
+pub mod FitsState
 pub mod Answers
 pub mod Worked
