@@ -1,3 +1,4 @@
 pub mod HeldKeys
 pub mod EvalFits
 pub mod EvalCounts
+pub mod EvalOrder

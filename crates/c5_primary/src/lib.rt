@@ -1,0 +1,6 @@
+//! The primary, which runs the bodies of a script.
+#![tactic(auto)]
+
+mod serial;
+
+pub use serial::run_serial;
