@@ -35,9 +35,9 @@ below_first state name (e ∷ es) below = less (row_name_cmp name e.0) (first (i
 entries_ascend : (state : State) (es : List (RowName × Unit {0})) → T (is_sorted row_name_cmp es) → IsAscending (writes_at state es)
 entries_ascend state [] up = tt
 entries_ascend state (e ∷ es) up = (
-      below_first state e.0 es (first (below_all row_name_cmp e.0 es) (is_sorted row_name_cmp es) up),
-      entries_ascend state es (second (below_all row_name_cmp e.0 es) (is_sorted row_name_cmp es) up),
-    )
+  below_first state e.0 es (first (below_all row_name_cmp e.0 es) (is_sorted row_name_cmp es) up),
+  entries_ascend state es (second (below_all row_name_cmp e.0 es) (is_sorted row_name_cmp es) up),
+)
 
 ending_ascends : (end : Option Progress) → IsAscending (ending_of end).writes
 ending_ascends None = tt

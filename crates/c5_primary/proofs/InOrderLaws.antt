@@ -6,6 +6,7 @@ use Rattle.std.specs.List.Sorted.{IsPermutation}
 use Rattle.std.proofs.lemmas.List.{length-append}
 use Rattle.std.proofs.lemmas.List.FromFn.{length-range_with_len}
 use Rattle.std.proofs.lemmas.List.Sorted.{IsPermutation-refl}
+use Rattle.std.proofs.lemmas.List.Sums.{sum_by-cons}
 use Rattle.c5_rows.specs.Order.{row_name_cmp}
 use Rattle.c5_rows.specs.State.{State, after_writes}
 use Rattle.c5_rows.specs.declared.tables.TableDef.{TableDef}
@@ -48,7 +49,8 @@ run-in_order : (all rest : List (List Statement)) (n : ℕ) (state : State) → 
 run-in_order all [] n state e = refl
 run-in_order all (body ∷ rest) n state e =
     let here = at_drop all n body rest [] e in
-    let later : drop (n + 1) all ≡ rest = ap (λ (k : ℕ). drop k all) (omega arith) ∙ here.1 in
+    let next : n + 1 ≡ suc n = omega arith in
+    let later : drop (n + 1) all ≡ rest = ap (λ (k : ℕ). drop k all) next ∙ here.1 in
     let left = run-in_order all rest (n + 1) (after_writes (eval body state).writes state) later in
     ap (λ (txns : List Txn). ran n (n + 1) body state ∷ txns) left
     ∙ ap (λ (b : List Statement). ran n (n + 1) b state ∷ run_from (n + 1 + 1) all (after_writes (eval b state).writes state) (range_with_len (n + 1) (length rest))) (sym here.0)
@@ -69,7 +71,7 @@ stamps_rise bodies [] last state few = tt
 stamps_rise bodies (number ∷ numbers) last state few =
     (omega arith, omega arith, stamps_rise bodies numbers (last + 1) (after_writes (eval (body_at bodies number) state).writes state) (omega arith))
 
-pub run-serial : (bodies : List (List Statement)) (state : State) → length bodies ≤ 65536 → SerialRun bodies state (run bodies state (range_with_len 0 (length bodies)))
+run-serial : (bodies : List (List Statement)) (state : State) → length bodies ≤ 65536 → SerialRun bodies state (run bodies state (range_with_len 0 (length bodies)))
 run-serial bodies state few =
     let numbers = range_with_len 0 (length bodies) in
     let same : script_numbers (run bodies state numbers) ≡ numbers = numbers-run_from bodies numbers 1 state in
@@ -102,14 +104,34 @@ in_order-lawful tables (body ∷ bodies) n state few are fit all =
       in_order-lawful tables bodies (n + 1) (after_writes (eval body state).writes state) (omega arith) are.1 fit.1 (StateFits-after_writes tables (eval body state).writes state lawful all),
     )
 
-in_order-length : (bodies : List (List Statement)) (n : ℕ) (state : State) → length (in_order n bodies state) ≡ length bodies
+pub in_order-length : (bodies : List (List Statement)) (n : ℕ) (state : State) → length (in_order n bodies state) ≡ length bodies
 in_order-length [] n state = refl
 in_order-length (body ∷ bodies) n state = ap suc (in_order-length bodies (n + 1) (after_writes (eval body state).writes state))
 
-in_order-writes : (bodies : List (List Statement)) (n : ℕ) (state : State) → sum_by (λ txn. length txn.writes) (in_order n bodies state) ≤ write_statements bodies
+pub in_order-writes : (bodies : List (List Statement)) (n : ℕ) (state : State) → sum_by (λ txn. length txn.writes) (in_order n bodies state) ≤ write_statements bodies
 in_order-writes [] n state = omega arith
 in_order-writes (body ∷ bodies) n state =
     let count = eval-count body state in
     let rest = in_order-writes bodies (n + 1) (after_writes (eval body state).writes state) in
     let joined = length-append (filter_map written_name body) (written_names bodies) in
+    let first = sum_by-cons (λ (txn : Txn). length txn.writes) (ran n (n + 1) body state) (in_order (n + 1) bodies (after_writes (eval body state).writes state)) in
     omega arith
+
+-- ---- what the contract says
+
+pub in_order-run : (bodies : List (List Statement)) (state : State) → in_order 0 bodies state ≡ run bodies state (range_with_len 0 (length bodies))
+in_order-run bodies state = run-in_order bodies bodies 0 state refl
+
+pub in_order-serial : (bodies : List (List Statement)) (state : State) → length bodies ≤ 65536 → SerialRun bodies state (in_order 0 bodies state)
+in_order-serial bodies state few = subst (SerialRun bodies state) (sym (in_order-run bodies state)) (run-serial bodies state few)
+
+pub in_order-is_lawful : (script : ScriptParts) → IsScript script → length script.bodies ≤ 65536 → IsLawful script.tables (in_order 0 script.bodies empty)
+in_order-is_lawful script is few =
+    let count = in_order-length script.bodies 0 (empty {R = row_name_cmp}) in
+    record {
+      schema = is.schema;
+      each_table = is.each_table;
+      each_txn = in_order-lawful script.tables script.bodies 0 empty (omega arith) is.bodies is.bodies_fit (StateFits-empty script.tables);
+      stamps = (in_order-serial script.bodies empty few).stamps;
+      count = omega arith;
+    }
