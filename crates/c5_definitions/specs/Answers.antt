@@ -13,10 +13,14 @@ use Rattle.c5_definitions.specs.ScriptParts.{ReadParts}
 use Rattle.c5_definitions.specs.Statements.{number_in}
 use Rattle.c5_definitions.specs.Follows.{Read}
 
+-- the names that keys have in a table
+abbrev pub table_names : ℕ → List (List ℕ) → List RowName
+table_names table keys = map (λ key. record { table = table; key = key }) keys
+
 -- the names of the rows that a line asks for; a repeated key stands again
 abbrev pub names_in : ReadLine → List RowName
 names_in (OneRow name) = name ∷ []
-names_in (SumOf table col keys) = map (λ key. record { table = table; key = key }) keys
+names_in (SumOf table col keys) = table_names table keys
 
 -- the names of the rows that a read block asks for, in order
 abbrev pub asked_names : List ReadLine → List RowName
