@@ -1,7 +1,6 @@
 -- What a body does on a state itself.
 use Rattle.std.specs.Prelude.{Bool, true, false, List, [], ◌∷◌, map, Option, Some, None}
-use Rattle.std.specs.FinMap.{get}
-use Rattle.std.specs.FinSet.{FinSet, empty, insert, items}
+use Rattle.std.specs.FinMap.{FinMap, empty, get, insert, keys}
 use Rattle.c5_rows.specs.declared.cells.Cell.{Cell}
 use Rattle.c5_rows.specs.declared.writes.RowName.{RowName}
 use Rattle.c5_rows.specs.declared.writes.Change.{Change}
@@ -29,7 +28,7 @@ pub record Ending : Type 0 where
 -- the state so far, and the names of the rows that were set
 pub record Progress : Type 0 where
   pub state : State
-  pub noted : FinSet row_name_cmp
+  pub noted : FinMap row_name_cmp (Unit {0})
 
 -- the row of a name that may be missing
 abbrev pub row_in : Option RowName → State → Option (List Cell)
@@ -38,7 +37,7 @@ row_in (Some name) state = get state name
 
 -- a row is set, and its name is noted
 abbrev pub set_row : RowName → Option (List Cell) → Progress → Progress
-set_row name row p = record { state = after_change name (change_to row) p.state; noted = insert p.noted name }
+set_row name row p = record { state = after_change name (change_to row) p.state; noted = insert p.noted name tt }
 
 -- one statement after the other; none where one of them declines
 abbrev pub run : List Statement → Progress → Option Progress
@@ -53,7 +52,7 @@ run (statement ∷ statements) p =
 -- no writes where a statement declined; else for each noted name, ascending, the row that the state then has
 abbrev pub ending_of : Option Progress → Ending
 ending_of None = record { declined = true; writes = [] }
-ending_of (Some p) = record { declined = false; writes = map (λ name. write_of name (get p.state name)) (items p.noted) }
+ending_of (Some p) = record { declined = false; writes = map (λ name. write_of name (get p.state name)) (keys p.noted) }
 
 -- how a body ends on a state
 unfoldable pub eval : List Statement → State → Ending

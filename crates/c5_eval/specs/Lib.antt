@@ -5,3 +5,4 @@ pub use Rattle.c5_definitions.specs.Answers
 pub mod Refusals
 pub mod Faults
 pub mod Stepping
+pub mod Reader

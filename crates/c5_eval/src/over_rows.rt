@@ -1,6 +1,7 @@
 //! Bodies and read blocks over rows in memory.
 
-ghost use Rattle.std.specs.Prelude.{◌≡◌, [], IfOk};
+ghost use Rattle.std.specs.Prelude.{◌≡◌, [], ◌∷◌, ◌++◌, IfOk, OnOk, OnErr};
+ghost use Rattle.std.specs.FinMap as map;
 ghost use Rattle.c5_definitions.specs.Eval.{eval};
 ghost use Rattle.c5_definitions.specs.Follows.{AnsweredBy};
 ghost use Rattle.c5_definitions.specs.Answers.{answer_of};
@@ -11,6 +12,7 @@ use crate::walking::{Outcome, evaluate};
 use c5_rows::{Answer, NoMemory, Row, RowName, Rows};
 use c5_script::{Body, ReadBlock};
 use std::alloc::Global;
+use std::marker::Model;
 
 /// A reader of rows in memory. It keeps what was asked, and refuses where memory for that is refused.
 #[derive(Drop)]
@@ -18,14 +20,41 @@ pub struct RowsReader<'a> {
     rows: &'a Rows,
     asked: Vec<(RowName, Option<Row>)>,
     refusals: u64,
-    ghost answered: { AnsweredBy rows.now asked.items },
+}
+
+impl<'a> Model for RowsReader<'a> {
+    ghost use Rattle.c5_eval.specs.Reader.{ReaderState, reader_code};
+    ghost use Rattle.c5_definitions.specs.Follows.{AnsweredBy};
+
+    ghost Value = { ReaderState };
+
+    ghost coded = { reader_code };
+
+    ghost view = { λ r. record { base = r.rows.now; asked = r.asked.items; refusals = r.refusals } };
+
+    ghost invariant = { λ r. AnsweredBy r.rows.now r.asked.items };
+}
+
+// Keeps what was asked and answered.
+fn note(asked: &mut Vec<(RowName, Option<Row>)>, name: &RowName, row: &Option<Row>) -> Result<(), NoMemory>
+    ensures ok { OnOk result (asked.new.items ≡ asked.old.items ++ (name.now, row.now) ∷ []) }
+    ensures err { OnErr result (asked.new.items ≡ asked.old.items) }
+{
+    asked.push((*name, *row))?;
+    Ok(())
+}
+
+// The row of a name, as a value.
+fn row_of(rows: &Rows, name: &RowName) -> Option<Row>
+    ensures { result ≡ map.get rows.now name.now }
+{
+    rows.get(name).copied()
 }
 
 impl<'a> RowsReader<'a> {
     /// A reader of these rows that nothing was asked of.
     pub fn new(alloc: Global, rows: &'a Rows) -> Self
-        ensures base { ⟦<RowsReader<'static> as ReadRows>⟧.base result ≡ rows.now }
-        ensures asked { ⟦<RowsReader<'static> as ReadRows>⟧.asked result ≡ [] }
+        ensures { result ≡ record { base = rows.now; asked = []; refusals = 0 } }
     {
         RowsReader {
             rows,
@@ -36,7 +65,7 @@ impl<'a> RowsReader<'a> {
 
     /// Each answer so far is that of the rows.
     pub fn know_answers(&self)
-        ensures { AnsweredBy (⟦<RowsReader<'static> as ReadRows>⟧.base self.now) (⟦<RowsReader<'static> as ReadRows>⟧.asked self.now) }
+        ensures { AnsweredBy self.now.base self.now.asked }
     {
         let _refusals = self.refusals;
     }
@@ -47,15 +76,15 @@ impl ReadRows for RowsReader<'_> {
 
     type Base = Rows;
 
-    ghost base = { λ r. r.rows.now };
+    ghost base = { λ r. r.base };
 
-    ghost asked = { λ r. r.asked.items };
+    ghost asked = { λ r. r.asked };
 
     ghost refusals = { λ r. r.refusals };
 
     fn row(&mut self, name: &RowName) -> Result<Option<Row>, NoMemory> {
-        let row = self.rows.get(name).copied();
-        match self.asked.push((*name, row)) {
+        let row = row_of(self.rows, name);
+        match note(&mut self.asked, name, &row) {
             Ok(()) => Ok(row),
             Err(_) => {
                 self.refusals = self.refusals.saturating_add(1);

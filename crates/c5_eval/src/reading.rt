@@ -41,7 +41,10 @@ pub enum EvalFault<F> {
 }
 
 impl<F> From<NoMemory> for EvalFault<F> {
-    ghost from_gives = { λ _ e. e ≡ EvalFault.NoMemory };
+    ghost use Rattle.std.specs.Prelude.{◌≡◌};
+    ghost use Rattle.c5_eval.specs.declared.reading.EvalFault.TheVariants as faults;
+
+    ghost from_gives = { λ _ e. e ≡ faults.NoMemory };
 
     fn from(_: NoMemory) -> Self {
         EvalFault::NoMemory
