@@ -1,1 +1,3 @@
 mod OwnLemmas
+mod OnStates
+mod ReadBlocks

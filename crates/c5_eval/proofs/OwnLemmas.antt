@@ -1,5 +1,5 @@
 -- The finite map that the entries of a tree make, and the writes that it makes.
-use Rattle.std.proofs.Common.{◌≡◌, ℕ, Bool, true, false, cond, ◌&&◌, T, List, [], ◌∷◌, ◌++◌, Option, Some, None, map, refl, ap, sym, ◌∙◌, Ordering, Less, Equal, Greater}
+use Rattle.std.proofs.Common.{◌≡◌, ℕ, Bool, true, false, cond, ◌&&◌, T, subst, append_assoc, List, [], ◌∷◌, ◌++◌, Option, Some, None, map, refl, ap, sym, ◌∙◌, Ordering, Less, Equal, Greater}
 use Rattle.std.specs.FinMap.{get, insert, entries, entries_sorted, from_entries, find, put, is_sorted, same_map, get-insert, get-from_entries, entries-insert, len-entries, len-empty, empty}
 use Rattle.std.specs.FinMap.Entries.{below_all}
 use Rattle.std.specs.Ordering.{eq_by_cmp, is_lt, ordering_reverse}
@@ -84,3 +84,13 @@ put_write-next y [] more up = refl
 put_write-next y (x ∷ xs) more up =
     let e : row_name_cmp y.name x.name ≡ Greater = row_name_cmp_total.antisymm y.name x.name ∙ ap ordering_reverse (before_later x y xs more up) in
     rw e (ap (λ ws. x ∷ ws) (put_write-next y xs more up.1))
+
+-- one entry more, of those that are left
+pub next_write : (own : Own) (writes : List Write) (left rest : List (RowName × Option (List Cell))) (name : RowName) (row : Option (List Cell)) →
+    left ≡ (name, row) ∷ rest → writes ++ map (λ (name, row). write_of name row) left ≡ own_writes own →
+    put_write (write_of name row) writes ++ map (λ (name, row). write_of name row) rest ≡ own_writes own
+next_write own writes left rest name row is all =
+    let more = map (λ (e : RowName × Option (List Cell)). write_of e.0 e.1) rest in
+    let whole : writes ++ write_of name row ∷ more ≡ own_writes own = ap (λ es. writes ++ map (λ (e : RowName × Option (List Cell)). write_of e.0 e.1) es) (sym is) ∙ all in
+    ap (λ ws. ws ++ more) (put_write-next (write_of name row) writes more (subst IsAscending (sym whole) (IsAscending-own_writes own)))
+    ∙ append_assoc writes (write_of name row ∷ []) more ∙ whole

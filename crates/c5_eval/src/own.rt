@@ -3,6 +3,7 @@
 ghost use Rattle.std.specs.Prelude.{◌≡◌, OnOk, IfOk};
 ghost use Rattle.std.specs.Option.{option_copied};
 ghost use Rattle.std.specs.FinMap as map;
+ghost use Rattle.c5_definitions.specs.Eval.{change_to};
 ghost use Rattle.c5_definitions.specs.Follows.{own_writes};
 
 use c5_rows::{Change, NoMemory, Row, RowName, Writes};
@@ -32,6 +33,16 @@ impl Model for Own {
     ghost view = { λ o. map.from_entries o.rows.entries };
 
     ghost invariant = { λ o. IsOrdered row_name_cmp o.rows };
+}
+
+// The change that makes a row this one.
+fn change_to(row: &Option<Row>) -> Change
+    ensures { result ≡ change_to row.now }
+{
+    match row {
+        Some(row) => Change::Put(*row),
+        None => Change::Gone,
+    }
 }
 
 impl Own {
@@ -65,11 +76,7 @@ impl Own {
     {
         let mut writes = Writes::new(alloc);
         for (name, row) in self.rows.iter() {
-            let change = match row {
-                Some(row) => Change::Put(*row),
-                None => Change::Gone,
-            };
-            writes.set(*name, change)?;
+            writes.set(*name, change_to(row))?;
         }
         Ok(writes)
     }

@@ -5,7 +5,7 @@ ghost use Rattle.c5_rows.specs.declared.cells.Cell.{Cell};
 ghost use Rattle.c5_rows.specs.declared.writes.RowName.{RowName};
 ghost use Rattle.c5_eval.specs.Refusals.{HasCause};
 
-use c5_rows::{Row, RowName};
+use c5_rows::{NoMemory, Row, RowName};
 
 /// A reader of rows.
 pub trait ReadRows {
@@ -38,4 +38,15 @@ pub enum EvalFault<F> {
     Read(F),
     /// Memory was refused.
     NoMemory,
+}
+
+impl<F> From<NoMemory> for EvalFault<F> {
+    ghost use Rattle.std.specs.Prelude.{◌≡◌};
+    ghost use Rattle.c5_eval.specs.declared.reading.EvalFault.TheVariants as faults;
+
+    ghost from_gives = { λ _ e. e ≡ faults.NoMemory };
+
+    fn from(_: NoMemory) -> Self {
+        EvalFault::NoMemory
+    }
 }
