@@ -11,3 +11,6 @@ pub use bodies::Body;
 pub use c5_definitions::{Keys, ReadLine, Rel, ScriptFault, ScriptKind, Statement, TurnWord};
 pub use limits::{MOST_ROWS, MOST_TRANSACTIONS, MOST_WRITES, OverFault};
 pub use script::Script;
+
+#[cfg(test)]
+mod tests;
