@@ -1,3 +1,5 @@
-mod OwnLemmas
+mod Blocks
 mod OnStates
+mod OwnLemmas
 mod ReadBlocks
+mod Walks

@@ -83,18 +83,19 @@ not_found Less h = refl
 not_found Equal h = absurd h
 not_found Greater h = absurd h
 
-
 found_behind : (e : RowName × Option (List Cell)) (es fs : List (RowName × Option (List Cell))) → T (below_all row_name_cmp e.0 fs) → AllByRecursion (λ f. find row_name_cmp f.0 es ≡ Some f.1) fs → AllByRecursion (λ f. find row_name_cmp f.0 (e ∷ es) ≡ Some f.1) fs
 found_behind e es [] below all = tt
-found_behind e es (f ∷ fs) below all =
-    (ap (λ b. cond b (Some e.1) (find row_name_cmp f.0 es)) (ap is_eq (row_name_cmp_total.antisymm f.0 e.0) ∙ not_found (row_name_cmp e.0 f.0) (first_part (is_lt (row_name_cmp e.0 f.0)) (below_all row_name_cmp e.0 fs) below)) ∙ all.0,
-     found_behind e es fs (second_part (is_lt (row_name_cmp e.0 f.0)) (below_all row_name_cmp e.0 fs) below) all.1)
+found_behind e es (f ∷ fs) below all = (
+  ap (λ b. cond b (Some e.1) (find row_name_cmp f.0 es)) (ap is_eq (row_name_cmp_total.antisymm f.0 e.0) ∙ not_found (row_name_cmp e.0 f.0) (first_part (is_lt (row_name_cmp e.0 f.0)) (below_all row_name_cmp e.0 fs) below)) ∙ all.0,
+  found_behind e es fs (second_part (is_lt (row_name_cmp e.0 f.0)) (below_all row_name_cmp e.0 fs) below) all.1,
+)
 
 each_found : (es : List (RowName × Option (List Cell))) → T (is_sorted row_name_cmp es) → AllByRecursion (λ e. find row_name_cmp e.0 es ≡ Some e.1) es
 each_found [] up = tt
-each_found (e ∷ es) up =
-    (ap (λ r. cond (is_eq r) (Some e.1) (find row_name_cmp e.0 es)) (tied_itself row_name_cmp_total e.0),
-     found_behind e es es (first_part (below_all row_name_cmp e.0 es) (is_sorted row_name_cmp es) up) (each_found es (second_part (below_all row_name_cmp e.0 es) (is_sorted row_name_cmp es) up)))
+each_found (e ∷ es) up = (
+  ap (λ r. cond (is_eq r) (Some e.1) (find row_name_cmp e.0 es)) (tied_itself row_name_cmp_total e.0),
+  found_behind e es es (first_part (below_all row_name_cmp e.0 es) (is_sorted row_name_cmp es) up) (each_found es (second_part (below_all row_name_cmp e.0 es) (is_sorted row_name_cmp es) up)),
+)
 
 same_writes : (start : State) (own : Own) (p : Progress) → Matches start own p → (es : List (RowName × Option (List Cell))) → AllByRecursion (λ e. find row_name_cmp e.0 (entries own) ≡ Some e.1) es →
     map (λ name. write_of name (get p.state name)) (map (λ e. e.0) es) ≡ map (λ (name, row). write_of name row) es
@@ -125,8 +126,8 @@ follows_on (statement ∷ statements) start own p reads declined writes m answer
     let row = needed_row (needed statement) start own p reads rest found m answered finds in
     subst (λ (r : Option (List Cell)). ending_of (elim (effect_of statement r) [ declines ↦ None | keeps ↦ run statements p | sets name set ↦ run statements (set_row name set p) ]) ≡ record { declined = declined; writes = writes }) (sym row.0)
     (elim (effect_of statement found) as (λ e.
-        elim e as (λ _. Type 0) [ declines ↦ (rest ≡ []) × (declined ≡ true) × (writes ≡ []) | keeps ↦ FollowsFrom statements own rest declined writes | sets name set ↦ FollowsFrom statements (insert own name set) rest declined writes ]
-        → ending_of (elim e [ declines ↦ None | keeps ↦ run statements p | sets name set ↦ run statements (set_row name set p) ]) ≡ record { declined = declined; writes = writes }) [
+    elim e as (λ _. Type 0) [ declines ↦ (rest ≡ []) × (declined ≡ true) × (writes ≡ []) | keeps ↦ FollowsFrom statements own rest declined writes | sets name set ↦ FollowsFrom statements (insert own name set) rest declined writes ]
+    → ending_of (elim e [ declines ↦ None | keeps ↦ run statements p | sets name set ↦ run statements (set_row name set p) ]) ≡ record { declined = declined; writes = writes }) [
       | declines ↦ λ h. λ i. record { declined = sym h.1 i; writes = sym h.2 i }
       | keeps ↦ λ h. follows_on statements start own p rest declined writes m row.1 h
       | sets name set ↦ λ h. follows_on statements start (insert own name set) (set_row name set p) rest declined writes (set_matches name set start own p m) row.1 h

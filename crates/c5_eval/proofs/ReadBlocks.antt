@@ -31,9 +31,9 @@ lines_same state (line ∷ lines) =
     let split : map (answered_read state) (names ++ asked_names lines) ≡ map (answered_read state) names ++ more = map-append (answered_read state) names (asked_names lines) in
     let count : length (map (answered_read state) names) ≡ length names = length-map names (answered_read state) in
     let front : map (λ read. read.1) (take (length names) (map (answered_read state) (names ++ asked_names lines))) ≡ map (get state) names =
-        ap (λ (reads : List Read). map (λ read. read.1) (take (length names) reads)) split ∙ ap (map (λ read. read.1)) (take_at (map (answered_read state) names) more (length names) count) ∙ rows_back state names in
+    ap (λ (reads : List Read). map (λ read. read.1) (take (length names) reads)) split ∙ ap (map (λ read. read.1)) (take_at (map (answered_read state) names) more (length names) count) ∙ rows_back state names in
     let back : lines_over lines (drop (length names) (map (answered_read state) (names ++ asked_names lines))) ≡ lines_from lines state =
-        ap (λ (reads : List Read). lines_over lines (drop (length names) reads)) split ∙ ap (lines_over lines) (drop_at (map (answered_read state) names) more (length names) count) ∙ lines_same state lines in
+    ap (λ (reads : List Read). lines_over lines (drop (length names) reads)) split ∙ ap (lines_over lines) (drop_at (map (answered_read state) names) more (length names) count) ∙ lines_same state lines in
     λ i. line_answer line (front i) ∷ back i
 
 pub answers_same : (read : ReadParts) (state : State) (reads : List Read) (answer : List AnswerLine) → IsAnswered read.lines reads answer → AnsweredBy state reads → answer ≡ answer_of read state

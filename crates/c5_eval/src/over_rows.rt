@@ -36,7 +36,11 @@ impl<'a> Model for RowsReader<'a> {
 }
 
 // Keeps what was asked and answered.
-fn note(asked: &mut Vec<(RowName, Option<Row>)>, name: &RowName, row: &Option<Row>) -> Result<(), NoMemory>
+fn note(
+    asked: &mut Vec<(RowName, Option<Row>)>,
+    name: &RowName,
+    row: &Option<Row>,
+) -> Result<(), NoMemory>
     ensures ok { OnOk result (asked.new.items ≡ asked.old.items ++ (name.now, row.now) ∷ []) }
     ensures err { OnErr result (asked.new.items ≡ asked.old.items) }
 {

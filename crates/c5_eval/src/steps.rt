@@ -91,6 +91,16 @@ fn set(own: &mut Own, name: RowName, row: Option<Row>) -> Result<Step, NoMemory>
     Ok(Step::GoesOn)
 }
 
+// Sets a row where there is one, and declines otherwise.
+fn set_or_decline(own: &mut Own, name: RowName, row: Option<Row>) -> Result<Step, NoMemory>
+    ensures { IfOk result (λ step. Acts (set_or_declined name row) own.old own.new step) }
+{
+    match row {
+        Some(row) => set(own, name, Some(row)),
+        None => Ok(Step::Declines),
+    }
+}
+
 // Declines unless the row's number compares so with `n`.
 fn need<R: ReadRows>(
     own: &mut Own,
@@ -133,10 +143,7 @@ fn add<R: ReadRows>(
         Ok(found) => found,
         Err(fault) => return Err(EvalFault::Read(fault)),
     };
-    match added(&found, col, n) {
-        Some(row) => Ok(set(own, *name, Some(row))?),
-        None => Ok(Step::Declines),
-    }
+    Ok(set_or_decline(own, *name, added(&found, col, n))?)
 }
 
 // Sets the row `to` to what the row `from` is.
