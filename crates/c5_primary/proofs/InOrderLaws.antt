@@ -1,9 +1,10 @@
 -- Bodies that run in the order of their numbers make a serial run, and a lawful log.
 use Rattle.std.proofs.Common.{◌≡◌, ◌≤◌, ◌<◌, ◌+◌, ◌-◌, ◌^◌, ◌∙◌, ℕ, zero, suc, Option, Some, None, List, [], ◌∷◌, ◌++◌, length, map, get_or, drop, refl, ap, sym, subst, arith}
 use Rattle.std.specs.FinMap.{empty}
-use Rattle.std.specs.List.{AllByRecursion, AllZip, range_with_len, sum_by, filter_map, cons_option}
+use Rattle.std.specs.List.{All, AllByRecursion, AllZip, range_with_len, sum_by, filter_map, cons_option}
 use Rattle.std.specs.List.Sorted.{IsPermutation}
 use Rattle.std.proofs.lemmas.List.{length-append}
+use Rattle.std.proofs.lemmas.List.Elements.{All-weaker, All-from_recursion}
 use Rattle.std.proofs.lemmas.List.FromFn.{length-range_with_len}
 use Rattle.std.proofs.lemmas.List.Sorted.{IsPermutation-refl}
 use Rattle.std.proofs.lemmas.List.Sums.{sum_by-cons}
@@ -135,3 +136,9 @@ in_order-is_lawful script is few =
       stamps = (in_order-serial script.bodies empty few).stamps;
       count = omega arith;
     }
+
+pub in_order-short : (script : ScriptParts) → IsScript script → length script.bodies ≤ 65536 → All (λ (txn : Txn). length txn.writes < 2 ^ 32) (in_order 0 script.bodies empty)
+in_order-short script is few =
+    let txns = in_order 0 script.bodies empty in
+    All-weaker (IsLawfulTxn script.tables) (λ (txn : Txn). length txn.writes < 2 ^ 32) (λ txn lawful. lawful.count) txns
+    (All-from_recursion (IsLawfulTxn script.tables) txns (in_order-is_lawful script is few).each_txn)

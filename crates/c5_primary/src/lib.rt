@@ -4,3 +4,6 @@
 mod serial;
 
 pub use serial::run_serial;
+
+#[cfg(test)]
+mod tests;

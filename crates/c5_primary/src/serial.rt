@@ -2,17 +2,16 @@
 
 ghost use Rattle.std.specs.Prelude.{◌≡◌, ◌≤◌, ◌<◌, ◌+◌, ◌^◌, length, IfOk, OnOk};
 ghost use Rattle.std.specs.FinMap.{empty};
-ghost use Rattle.std.specs.List.{range_with_len, sum_by};
+ghost use Rattle.std.specs.List.{All, range_with_len, sum_by};
 ghost use Rattle.c5_rows.specs.Order.{row_name_cmp};
 ghost use Rattle.c5_rows.specs.State.{after_writes};
-ghost use Rattle.c5_definitions.specs.FitsScript.{IsScript};
 ghost use Rattle.c5_definitions.specs.Lawful.{IsLawful};
 ghost use Rattle.c5_definitions.specs.Limits.{write_statements};
 ghost use Rattle.c5_definitions.specs.SerialRun.{ran, run, SerialRun};
-ghost use Rattle.c5_definitions.specs.Eval.{eval};
 ghost use Rattle.c5_primary.specs.InOrder.{in_order};
 
-use c5_rows::{NoMemory, Rows, Txn, Writes};
+use c5_eval::evaluate_rows;
+use c5_rows::{NoMemory, Rows, Txn};
 use c5_script::{Body, Script};
 use std::alloc::Global;
 
@@ -20,23 +19,15 @@ use std::alloc::Global;
 fn ran(alloc: Global, number: u32, body: &Body, rows: &Rows) -> Result<Txn, NoMemory>
     ensures { IfOk result (λ txn. txn ≡ ran number (number + 1) body.now rows.now) }
 {
-    let writes = writes_on(alloc, body, rows)?;
+    let outcome = evaluate_rows(alloc, body, rows)?;
     Ok(Txn {
         script: number,
         stamp: number as u64 + 1,
-        writes,
+        writes: outcome.writes,
     })
 }
 
-fn writes_on(alloc: Global, body: &Body, rows: &Rows) -> Result<Writes, NoMemory>
-    ensures { IfOk result (λ writes. writes ≡ (eval body.now rows.now).writes) }
-{
-    let _alloc = alloc;
-    let _body = body;
-    let _rows = rows;
-    Err(NoMemory)
-}
-
+// Makes the changes of the transaction.
 fn apply(rows: &mut Rows, txn: &Txn) -> Result<(), NoMemory>
     ensures { OnOk result (rows.new ≡ after_writes txn.now.writes rows.old) }
 {
@@ -69,6 +60,7 @@ pub fn run_serial(alloc: Global, script: &Script) -> Result<Vec<Txn>, NoMemory>
     ensures serial { IfOk result (λ txns. SerialRun script.now.bodies (empty {R = row_name_cmp}) txns.items) }
     ensures lawful { IfOk result (λ txns. IsLawful script.now.tables txns.items) }
     ensures count { IfOk result (λ txns. length txns.items ≡ length script.now.bodies) }
+    ensures short { IfOk result (λ txns. All (λ txn. length txn.writes < 2 ^ 32) txns.items) }
     ensures writes { IfOk result (λ txns. sum_by (λ txn. length txn.writes) txns.items ≤ write_statements script.now.bodies) }
 {
     ran_in_order(alloc, script.bodies())
