@@ -1,8 +1,9 @@
 //! Read blocks.
 
 ghost use Rattle.std.specs.Prelude.{◌≡◌, ◌≤◌, ◌++◌, List, IfOk, length, map};
+ghost use Rattle.c5_definitions.specs.Statements.{number_in};
 ghost use Rattle.c5_definitions.specs.Follows.{Read};
-ghost use Rattle.c5_definitions.specs.Answers.{names_in, line_answer, sum_in, row_answer, IsAnswered, table_names};
+ghost use Rattle.c5_definitions.specs.Answers.{names_in, line_answer, sum_in, row_answer, IsAnswered, table_names, or_zero};
 ghost use Rattle.c5_eval.specs.Refusals.{HasCause};
 ghost use Rattle.c5_eval.specs.Faults.{HasReadCause, Grew};
 
@@ -11,6 +12,13 @@ use crate::steps::number_in;
 use c5_rows::{Answer, AnswerLine, Key, Row, RowName};
 use c5_script::{ReadBlock, ReadLine};
 use std::alloc::Global;
+
+// The number in a column of a row, and 0 where there is none.
+fn number_or_zero(row: &Option<Row>, col: u8) -> i64
+    ensures { result ≡ or_zero (number_in col row.now) }
+{
+    number_in(row, col).unwrap_or(0)
+}
 
 // The sum of a column over rows.
 fn sum<R: ReadRows>(rows: &mut R, table: u8, col: u8, keys: &[Key]) -> Result<i128, R::Fault>
@@ -23,7 +31,7 @@ fn sum<R: ReadRows>(rows: &mut R, table: u8, col: u8, keys: &[Key]) -> Result<i1
     let mut sum: i128 = 0;
     for key in keys {
         let row = rows.row(&RowName { table, key: *key })?;
-        sum += number_in(&row, col).unwrap_or(0) as i128;
+        sum += number_or_zero(&row, col) as i128;
     }
     Ok(sum)
 }
