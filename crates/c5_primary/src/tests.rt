@@ -1,4 +1,4 @@
-ghost use Rattle.std.specs.Prelude.{◌≡◌, IfOk, MatchOption, slice_get};
+ghost use Rattle.std.specs.Prelude.{◌≡◌, ◌∷◌, [], IfOk, MatchOption, slice_get};
 
 use super::*;
 use c5_rows::{
@@ -6,6 +6,7 @@ use c5_rows::{
     Write,
 };
 use c5_script::{Body, Rel, Script, Statement};
+use std::alloc::Global;
 use std::process::Abort;
 use std::test::Fail;
 
@@ -27,6 +28,15 @@ fn one_table(name: &[u8], types: &[CellType]) -> Result<Schema, Fail>
     }))
 }
 
+// The body of one statement.
+fn one(alloc: Global, statement: Statement) -> Result<Body, Fail>
+    ensures { IfOk result (λ body. body ≡ statement ∷ []) }
+{
+    let mut body = Body::new(alloc);
+    body.push(statement)?;
+    Ok(body)
+}
+
 fn expect(rt: &impl Abort, txn: &Txn, number: u32, writes: &[Write]) {
     assert_eq!(rt; txn.script, number);
     assert_eq!(rt; txn.stamp, number as u64 + 1);
@@ -46,10 +56,8 @@ fn a_text_and_a_number_are_put(rt: HostRuntime) -> Result<(), Fail> {
     let name = name_of(b"k")?;
     let text = Cell::Txt(TextCell::new(b"hello world")?);
     let row = Row::new(&[text, Cell::Int(-5)]).ok_or("two cells")?;
-    let mut body = Body::new(rt.alloc());
-    body.push(Statement::Put { name, row })?;
     let mut script = Script::new(rt.alloc(), schema);
-    script.push_body(body)?;
+    script.push_body(one(rt.alloc(), Statement::Put { name, row })?)?;
     let txns = run_serial(rt.alloc(), &script)?;
     assert_eq!(rt; txns.len(), 1);
     expect(&rt, &txns[0], 0, &[put_of(name, row)]);
@@ -61,13 +69,9 @@ fn a_sum_past_the_greatest_number_declines(rt: HostRuntime) -> Result<(), Fail> 
     let schema = one_table(b"acct", &[CellType::Int])?;
     let name = name_of(b"a")?;
     let row = Row::new(&[Cell::Int(9_223_372_036_854_775_807)]).ok_or("one cell")?;
-    let mut put = Body::new(rt.alloc());
-    put.push(Statement::Put { name, row })?;
-    let mut add = Body::new(rt.alloc());
-    add.push(Statement::Add { name, col: 0, n: 1 })?;
     let mut script = Script::new(rt.alloc(), schema);
-    script.push_body(put)?;
-    script.push_body(add)?;
+    script.push_body(one(rt.alloc(), Statement::Put { name, row })?)?;
+    script.push_body(one(rt.alloc(), Statement::Add { name, col: 0, n: 1 })?)?;
     let txns = run_serial(rt.alloc(), &script)?;
     assert_eq!(rt; txns.len(), 2);
     expect(&rt, &txns[0], 0, &[put_of(name, row)]);
@@ -82,25 +86,24 @@ fn each_body_sees_what_those_before_it_left(rt: HostRuntime) -> Result<(), Fail>
     let ten = Row::new(&[Cell::Int(10)]).ok_or("one cell")?;
     let five = Row::new(&[Cell::Int(5)]).ok_or("one cell")?;
     let mut script = Script::new(rt.alloc(), schema);
-    for row in [ten, five] {
-        let mut need = Body::new(rt.alloc());
-        need.push(Statement::Need {
-            name,
-            col: 0,
-            rel: Rel::Ge,
-            n: 10,
-        })?;
-        script.push_body(need)?;
-        let mut put = Body::new(rt.alloc());
-        put.push(Statement::Put { name, row })?;
-        script.push_body(put)?;
-    }
-    assert_eq!(rt; script.bodies().len(), 4);
+    let need = Statement::Need {
+        name,
+        col: 0,
+        rel: Rel::Ge,
+        n: 10,
+    };
+    script.push_body(one(rt.alloc(), need)?)?;
+    script.push_body(one(rt.alloc(), Statement::Put { name, row: ten })?)?;
+    script.push_body(one(rt.alloc(), need)?)?;
+    script.push_body(one(rt.alloc(), Statement::Put { name, row: five })?)?;
+    script.push_body(one(rt.alloc(), need)?)?;
+    assert_eq!(rt; script.bodies().len(), 5);
     let txns = run_serial(rt.alloc(), &script)?;
-    assert_eq!(rt; txns.len(), 4);
+    assert_eq!(rt; txns.len(), 5);
     expect(&rt, &txns[0], 0, &[]);
     expect(&rt, &txns[1], 1, &[put_of(name, ten)]);
     expect(&rt, &txns[2], 2, &[]);
     expect(&rt, &txns[3], 3, &[put_of(name, five)]);
+    expect(&rt, &txns[4], 4, &[]);
     Ok(())
 }
