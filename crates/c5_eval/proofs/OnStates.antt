@@ -15,6 +15,7 @@ use Rattle.c5_definitions.specs.declared.script.Statement.{Statement}
 use Rattle.c5_definitions.specs.Statements.{Effect, declines, keeps, sets, needed, effect_of}
 use Rattle.c5_definitions.specs.Eval.{Ending, Progress, change_to, write_of, row_in, set_row, run, ending_of, eval}
 use Rattle.c5_definitions.specs.Follows.{Read, Own, AnsweredBy, Finds, FollowsFrom, Follows, own_writes}
+use Rattle.c5_eval.specs.Reader.{ReaderState}
 
 -- the row that was set, or else the other one
 abbrev set_or : Option (Option (List Cell)) → Option (List Cell) → Option (List Cell)
@@ -137,3 +138,16 @@ follows_on (statement ∷ statements) start own p reads declined writes m answer
 pub follows_eval : (body : List Statement) (start : State) (reads : List Read) (declined : Bool) (writes : List Write) → Follows body reads declined writes → AnsweredBy start reads → eval body start ≡ record { declined = declined; writes = writes }
 unfolding eval
 follows_eval body start reads declined writes h answered = follows_on body start empty (record { state = start; noted = empty }) reads declined writes (start_matches start) answered h
+
+-- what was asked of a reader that began with nothing is answered by its rows
+pub answered_in : (start : State) (first now : ReaderState) (reads : List Read) → first ≡ record { base = start; asked = []; refusals = 0 } → now.base ≡ first.base → now.asked ≡ first.asked ++ reads → AnsweredBy now.base now.asked → AnsweredBy start reads
+answered_in start first now reads is base asked answered =
+    let same_base : now.base ≡ start = base ∙ ap (λ r. r.base) is in
+    let same_reads : now.asked ≡ reads = asked ∙ ap (λ r. r.asked ++ reads) is in
+    subst (λ s. AnsweredBy s reads) same_base (subst (AnsweredBy now.base) same_reads answered)
+
+-- a body over such a reader ends as it does on the rows
+pub rows_ending : (body : List Statement) (start : State) (first now : ReaderState) (reads : List Read) (declined : Bool) (writes : List Write) → Follows body reads declined writes →
+    first ≡ record { base = start; asked = []; refusals = 0 } → now.base ≡ first.base → now.asked ≡ first.asked ++ reads → AnsweredBy now.base now.asked → eval body start ≡ record { declined = declined; writes = writes }
+rows_ending body start first now reads declined writes follows is base asked answered =
+    follows_eval body start reads declined writes follows (answered_in start first now reads is base asked answered)

@@ -72,3 +72,6 @@ leads_to_end all i own reads le leads =
 -- reads that were made after others
 pub read_on : (before reads taken now later : List Read) → now ≡ before ++ reads → later ≡ now ++ taken → later ≡ before ++ (reads ++ taken)
 read_on before reads taken now later first second = second ∙ ap (λ rs. rs ++ taken) first ∙ append_assoc before reads taken
+
+pub acts_alike : (a b : Effect) (own after : Own) (step : Step) → a ≡ b → Acts b own after step → Acts a own after step
+acts_alike a b own after step same acts = subst (λ e. Acts e own after step) (sym same) acts

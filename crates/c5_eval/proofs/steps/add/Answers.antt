@@ -1,7 +1,5 @@
-use Rattle.std.proofs.Common.{sym, subst, FitsSigned, w64}
-use mir.ValLaws.{to_z-of_z}
-use Rattle.c5_definitions.specs.Statements.{Effect}
-use Rattle.c5_eval.specs.Stepping.{Acts}
+use Rattle.std.proofs.Common.{FitsSigned, w64, to_z-of_z}
+use Rattle.c5_eval.proofs.Walks.{acts_alike}
 use Rattle.c5_eval.proofs.steps.add.Goals as goal
 
 pub returns-clause-takes : goal.returns-clause-takes
@@ -9,5 +7,4 @@ returns-clause-takes g c =
     let found = c.in-Ok.ensures.found in
     let fits : FitsSigned w64 c.args.n = c.ranges.n in
     let effect = simp to_z-of_z at (c.added.ensures c.args.name.now) in
-    let acts = subst (λ (e : Effect). Acts e c.args.own.now c.set_or_decline.new.own c.in_ok-set_or_decline.field-0) (sym effect) c.in_ok-set_or_decline.ensures in
-    (found.0, found.1, (c.in-Ok.found, found.2, acts))
+    (found.0, found.1, (c.in-Ok.found, found.2, acts_alike _ _ c.args.own.now c.set_or_decline.new.own c.in_ok-set_or_decline.field-0 effect c.in_ok-set_or_decline.ensures))
