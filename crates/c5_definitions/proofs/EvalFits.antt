@@ -1,7 +1,7 @@
 -- The writes of a body that fits, on a state that fits, are lawful, and leave a state that fits.
-use Rattle.std.proofs.Common.{◌≡◌, ◌≢◌, ◌<◌, ◌^◌, ◌+ℤ◌, ◌∙◌, ℕ, ℤ, pos, negsuc, zero, suc, Bool, true, false, cond, ◌||◌, List, [], ◌∷◌, Option, Some, None, length, map, set, refl, ap, sym, subst, arith}
+use Rattle.std.proofs.Common.{◌≡◌, ◌<◌, ◌+ℤ◌, ◌∙◌, ℕ, ℤ, pos, negsuc, zero, suc, Bool, true, false, cond, ◌||◌, List, [], ◌∷◌, Option, Some, None, length, map, refl, ap, sym, subst, arith}
 use Rattle.std.proofs.lemmas.Bool.{false≢true}
-use Rattle.std.specs.Prelude.{is_some, MatchOption, slice_get, slice_set, FitsSigned, nat_lt}
+use Rattle.std.specs.Prelude.{is_some, MatchOption, slice_get, slice_set, FitsSigned}
 use Rattle.std.specs.Int.{w64}
 use Rattle.std.specs.FinMap as map
 use Rattle.std.specs.List.{AllByRecursion, list_any}
@@ -25,9 +25,9 @@ use Rattle.c5_definitions.specs.declared.script.Statement.{Statement}
 use Rattle.c5_definitions.specs.declared.script.Statement.TheVariants.{Put, Del, Need, Add, Copy}
 use Rattle.c5_definitions.specs.declared.script.Rel.{Rel}
 use Rattle.c5_definitions.specs.Statements.{Effect, declines, keeps, sets, needed, effect_of, number_of, number_in, need_effect, add_effect, compares, fits_i64}
-use Rattle.c5_definitions.specs.Eval.{Progress, Ending, change_to, write_of, row_in, set_row, run, ending_of, eval}
+use Rattle.c5_definitions.specs.Eval.{Progress, change_to, write_of, row_in, set_row, run, ending_of, eval}
 use Rattle.c5_definitions.specs.Lawful.{IsLawfulCell, IsLawfulChange, IsLawfulWrite}
-use Rattle.c5_definitions.specs.FitsScript.{HasTable, HasRow, HasIntColumn, StatementFits, BodyFits, IsStatement}
+use Rattle.c5_definitions.specs.FitsScript.{HasTable, HasRow, StatementFits, BodyFits, IsStatement}
 use Rattle.c5_definitions.specs.FitsState.{IsNameIn, IsRowIn, MayBeIn, StateFits}
 
 -- ---- tables by their numbers

@@ -9,7 +9,7 @@ use Rattle.c5_rows.specs.Writes.{IsAscending, IsBelowFirst}
 use Rattle.c5_rows.specs.declared.writes.RowName.{RowName}
 use Rattle.c5_rows.specs.declared.writes.Write.{Write}
 use Rattle.c5_definitions.specs.declared.script.Statement.{Statement}
-use Rattle.c5_definitions.specs.Eval.{Progress, write_of, run, ending_of, eval}
+use Rattle.c5_definitions.specs.Eval.{Progress, write_of, ending_of, eval}
 
 -- a write of what the state has, for each name
 abbrev writes_at : State → List (RowName × Unit {0}) → List Write
