@@ -1,4 +1,1 @@
 pub mod HeldKeys
-pub mod EvalFits
-pub mod EvalCounts
-pub mod EvalOrder

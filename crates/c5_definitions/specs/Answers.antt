@@ -10,7 +10,7 @@ use Rattle.c5_rows.specs.State.{State}
 use Rattle.c5_definitions.specs.declared.script.ReadLine.{ReadLine}
 use Rattle.c5_definitions.specs.declared.script.ReadLine.TheVariants.{OneRow, SumOf}
 use Rattle.c5_definitions.specs.ScriptParts.{ReadParts}
-use Rattle.c5_definitions.specs.Statements.{number_in}
+use Rattle.c5_definitions.specs.Effects.{number_in}
 use Rattle.c5_definitions.specs.Follows.{Read}
 
 -- the names that keys have in a table

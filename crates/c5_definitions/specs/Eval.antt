@@ -9,7 +9,7 @@ use Rattle.c5_rows.specs.declared.writes.Write.{Write}
 use Rattle.c5_rows.specs.Order.{row_name_cmp}
 use Rattle.c5_rows.specs.State.{State, after_change}
 use Rattle.c5_definitions.specs.declared.script.Statement.{Statement}
-use Rattle.c5_definitions.specs.Statements.{declines, keeps, sets, needed, effect_of}
+use Rattle.c5_definitions.specs.Effects.{declines, keeps, sets, needed, effect_of}
 
 -- a put of the row, or a gone where there is none
 abbrev pub change_to : Option (List Cell) → Change

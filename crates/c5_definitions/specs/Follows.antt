@@ -8,7 +8,7 @@ use Rattle.c5_rows.specs.declared.writes.Write.{Write}
 use Rattle.c5_rows.specs.Order.{row_name_cmp}
 use Rattle.c5_rows.specs.State.{State}
 use Rattle.c5_definitions.specs.declared.script.Statement.{Statement}
-use Rattle.c5_definitions.specs.Statements.{declines, keeps, sets, needed, effect_of}
+use Rattle.c5_definitions.specs.Effects.{declines, keeps, sets, needed, effect_of}
 use Rattle.c5_definitions.specs.Eval.{write_of}
 
 -- a name that was asked, and the answer: a row, or none

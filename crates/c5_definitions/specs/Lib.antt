@@ -16,7 +16,7 @@ pub mod Limits
 pub mod Words
 pub mod Lawful
 pub mod Texts
-pub mod Statements
+pub mod Effects
 pub mod Eval
 pub mod Follows
 pub mod SerialRun

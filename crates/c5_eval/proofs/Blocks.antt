@@ -9,7 +9,7 @@ use Rattle.c5_rows.specs.declared.answer.AnswerLine.{AnswerLine}
 use Rattle.c5_definitions.specs.declared.script.ReadLine.{ReadLine}
 use Rattle.c5_definitions.specs.Follows.{Read}
 use Rattle.c5_definitions.specs.Answers.{names_in, table_names, asked_names, line_answer, lines_over, sum_in, or_zero, IsAnswered}
-use Rattle.c5_definitions.specs.Statements.{number_in}
+use Rattle.c5_definitions.specs.Effects.{number_in}
 
 -- whatever answers the lines from this place on makes, behind this, the answer to all
 abbrev pub Rounds : List ReadLine → List ReadLine → List Read → List AnswerLine → Type 0

@@ -12,7 +12,7 @@ use Rattle.c5_rows.specs.declared.writes.Write.{Write}
 use Rattle.c5_rows.specs.Order.{row_name_cmp, row_name_cmp_total}
 use Rattle.c5_rows.specs.State.{State, after_change}
 use Rattle.c5_definitions.specs.declared.script.Statement.{Statement}
-use Rattle.c5_definitions.specs.Statements.{Effect, declines, keeps, sets, needed, effect_of}
+use Rattle.c5_definitions.specs.Effects.{Effect, declines, keeps, sets, needed, effect_of}
 use Rattle.c5_definitions.specs.Eval.{Ending, Progress, change_to, write_of, row_in, set_row, run, ending_of, eval}
 use Rattle.c5_definitions.specs.Follows.{Read, Own, AnsweredBy, Finds, FollowsFrom, Follows, own_writes}
 use Rattle.c5_eval.specs.Reader.{ReaderState}

@@ -6,7 +6,7 @@ use Rattle.c5_rows.specs.declared.cells.Cell.{Cell}
 use Rattle.c5_rows.specs.declared.writes.RowName.{RowName}
 use Rattle.c5_rows.specs.declared.writes.Write.{Write}
 use Rattle.c5_definitions.specs.declared.script.Statement.{Statement}
-use Rattle.c5_definitions.specs.Statements.{Effect, declines, keeps, sets, needed, effect_of}
+use Rattle.c5_definitions.specs.Effects.{Effect, declines, keeps, sets, needed, effect_of}
 use Rattle.c5_definitions.specs.Follows.{Read, Own, Finds, FollowsFrom, own_writes}
 use Rattle.c5_eval.specs.declared.steps.Step.{Step}
 use Rattle.c5_eval.specs.declared.steps.Step.TheVariants.{GoesOn, Declines}

@@ -1,7 +1,7 @@
 //! Read blocks.
 
 ghost use Rattle.std.specs.Prelude.{◌≡◌, ◌≤◌, ◌++◌, List, IfOk, length, map};
-ghost use Rattle.c5_definitions.specs.Statements.{number_in};
+ghost use Rattle.c5_definitions.specs.Effects.{number_in};
 ghost use Rattle.c5_definitions.specs.Follows.{Read};
 ghost use Rattle.c5_definitions.specs.Answers.{names_in, line_answer, sum_in, row_answer, IsAnswered, table_names, or_zero};
 ghost use Rattle.c5_eval.specs.Refusals.{HasCause};

@@ -1,7 +1,7 @@
 //! Single statements.
 
 ghost use Rattle.std.specs.Prelude.{◌≡◌, ◌++◌, List, Option, Some, None, [], IfOk, OnErr, if◌then◌else◌};
-ghost use Rattle.c5_definitions.specs.Statements.{number_in, compares, add_effect, need_effect, keeps, declines, sets};
+ghost use Rattle.c5_definitions.specs.Effects.{number_in, compares, add_effect, need_effect, keeps, declines, sets};
 ghost use Rattle.c5_definitions.specs.Follows.{Read, Finds};
 ghost use Rattle.c5_rows.specs.declared.writes.RowName.{RowName};
 ghost use Rattle.c5_eval.specs.Refusals.{HasCause};

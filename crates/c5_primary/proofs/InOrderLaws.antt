@@ -21,9 +21,9 @@ use Rattle.c5_definitions.specs.Lawful.{IsLawful, IsLawfulTxn, StampsRise}
 use Rattle.c5_definitions.specs.Limits.{written_name, written_names, write_statements}
 use Rattle.c5_definitions.specs.ScriptParts.{ScriptParts}
 use Rattle.c5_definitions.specs.SerialRun.{body_at, ran, run_from, run, script_numbers, AreAlike, SerialRun}
-use Rattle.c5_definitions.proofs.EvalFits.{StateFits-empty, StateFits-after_writes, eval-lawful}
-use Rattle.c5_definitions.proofs.EvalCounts.{eval-count}
-use Rattle.c5_definitions.proofs.EvalOrder.{eval-ascending}
+use Rattle.c5_primary.proofs.EvalFits.{StateFits-empty, StateFits-after_writes, eval-lawful}
+use Rattle.c5_primary.proofs.EvalCounts.{eval-count}
+use Rattle.c5_primary.proofs.EvalOrder.{eval-ascending}
 use Rattle.c5_primary.specs.InOrder.{in_order}
 
 -- ---- bodies by their numbers

@@ -1,4 +1,4 @@
--- What a statement of a transaction needs, and what it does.
+-- What a statement of a transaction needs, and what it does to rows.
 use Rattle.std.specs.Prelude.{ℕ, ℤ, pos, negsuc, ◌^◌, ◌+ℤ◌, Bool, List, Option, Some, None, nat_lt, int_lt, int_le, slice_get, slice_set, if◌then◌else◌}
 use Rattle.std.specs.Ordering.{int_eq}
 use Rattle.c5_rows.specs.declared.cells.Cell.{Cell}

@@ -24,7 +24,7 @@ use Rattle.c5_rows.specs.Fitting.{FitsTables}
 use Rattle.c5_definitions.specs.declared.script.Statement.{Statement}
 use Rattle.c5_definitions.specs.declared.script.Statement.TheVariants.{Put, Del, Need, Add, Copy}
 use Rattle.c5_definitions.specs.declared.script.Rel.{Rel}
-use Rattle.c5_definitions.specs.Statements.{Effect, declines, keeps, sets, needed, effect_of, number_of, number_in, need_effect, add_effect, compares, fits_i64}
+use Rattle.c5_definitions.specs.Effects.{Effect, declines, keeps, sets, needed, effect_of, number_of, number_in, need_effect, add_effect, compares, fits_i64}
 use Rattle.c5_definitions.specs.Eval.{Progress, change_to, write_of, row_in, set_row, run, ending_of, eval}
 use Rattle.c5_definitions.specs.Lawful.{IsLawfulCell, IsLawfulChange, IsLawfulWrite}
 use Rattle.c5_definitions.specs.FitsScript.{HasTable, HasRow, StatementFits, BodyFits, IsStatement}
