@@ -7,7 +7,7 @@ use Rattle.c5_rows.specs.Tables.{IsSchema}
 use Rattle.c5_rows.specs.declared.cells.Cell.{Cell}
 use Rattle.c5_rows.specs.declared.cells.CellType.TheVariants as types
 use Rattle.c5_rows.specs.declared.tables.TableDef.{TableDef}
-use Rattle.c5_definitions.specs.Lawful.{IsLawfulCell}
+use Rattle.c5_definitions.specs.Lawful.{IsLawfulCell, IsLawfulTable}
 use Rattle.c5_definitions.specs.ScriptParts.{ReadParts, ScriptParts}
 use Rattle.c5_definitions.specs.declared.script.Statement.{Statement}
 use Rattle.c5_definitions.specs.declared.script.Statement.TheVariants.{Put, Del, Need, Add, Copy}
@@ -70,6 +70,7 @@ pub record IsRead (read : ReadParts) : Type 0 where
 -- bodies and at most 256 read blocks that fit the tables of a schema
 pub record IsScript (script : ScriptParts) : Type 0 where
   pub schema : IsSchema script.tables
+  pub each_table : AllByRecursion IsLawfulTable script.tables
   pub bodies : AllByRecursion IsBody script.bodies
   pub bodies_fit : AllByRecursion (BodyFits script.tables) script.bodies
   pub reads : AllByRecursion IsRead script.reads

@@ -12,6 +12,7 @@ pub mod Frames
 pub mod Items
 pub mod ScriptParts
 pub mod FitsScript
+pub mod Limits
 pub mod Words
 pub mod Lines
 pub mod LineGrammar
@@ -22,5 +23,11 @@ pub mod Statements
 pub mod Script
 pub mod Lawful
 pub mod Texts
+pub mod Effects
+pub mod Eval
+pub mod Follows
+pub mod SerialRun
+pub mod FitsState
+pub mod Answers
 pub mod Worked
 pub mod WorkedScripts

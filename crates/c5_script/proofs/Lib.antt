@@ -7,3 +7,4 @@ pub mod ScriptLemmas
 pub mod WordLaws
 pub mod Shapes
 pub mod FitsLines
+pub mod Different

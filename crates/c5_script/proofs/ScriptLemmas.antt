@@ -14,6 +14,7 @@ pub IsScript-body : (script : ScriptParts) (body : List Statement) (bodies : Lis
     → IsScript (record { tables = script.tables; bodies = bodies; reads = script.reads; turns = script.turns })
 IsScript-body script body bodies is own fits same = record {
   schema = is.schema;
+  each_table = is.each_table;
   bodies = subst (AllByRecursion IsBody) (sym same) (AllByRecursion-push IsBody script.bodies body is.bodies own);
   bodies_fit = subst (AllByRecursion (BodyFits script.tables)) (sym same) (AllByRecursion-push (BodyFits script.tables) script.bodies body is.bodies_fit fits);
   reads = is.reads;
@@ -25,6 +26,7 @@ pub IsScript-read : (script : ScriptParts) (read : ReadParts) (reads : List Read
     → IsScript (record { tables = script.tables; bodies = script.bodies; reads = reads; turns = script.turns })
 IsScript-read script read reads is own fits room same = record {
   schema = is.schema;
+  each_table = is.each_table;
   bodies = is.bodies;
   bodies_fit = is.bodies_fit;
   reads = subst (AllByRecursion IsRead) (sym same) (AllByRecursion-push IsRead script.reads read is.reads own);

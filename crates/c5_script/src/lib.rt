@@ -9,8 +9,7 @@ mod fault;
 mod front_parsing;
 mod headings;
 mod inside;
-#[cfg(test)]
-mod line_tests;
+mod limits;
 mod lines;
 mod lists;
 mod numerals;
@@ -27,8 +26,13 @@ pub use blocks::ReadBlock;
 pub use bodies::Body;
 pub use c5_definitions::{Keys, ReadLine, Rel, ScriptFault, ScriptKind, Statement, TurnWord};
 pub use front_parsing::{Front, parse_front};
+pub use limits::{MOST_ROWS, MOST_TRANSACTIONS, MOST_WRITES, OverFault};
 pub use parsing::{ParseFault, parse};
 pub use script::Script;
 
 #[cfg(test)]
+mod line_tests;
+#[cfg(test)]
 mod parsing_tests;
+#[cfg(test)]
+mod tests;

@@ -2,6 +2,8 @@
 
 ghost use Rattle.std.specs.Prelude.{◌≡◌, ◌<◌, ◌++◌, ◌∷◌, [], None, length, OnOk, OnErr};
 ghost use Rattle.c5_rows.specs.Tables.{table_of, IsSchema};
+ghost use Rattle.std.specs.List.{AllByRecursion};
+ghost use Rattle.c5_definitions.specs.Lawful.{IsLawfulTable};
 ghost use Rattle.c5_definitions.specs.FitsScript.{IsScript, BodyFits, ReadFits};
 
 use crate::blocks::ReadBlock;
@@ -31,11 +33,28 @@ impl Model for Script {
     ghost invariant = { λ s. IsScript (record { tables = s.schema; bodies = s.bodies.items; reads = s.reads.items; turns = s.turns.items }) };
 }
 
+// What the types of its parts say of a table.
+fn know_table(table: &TableDef)
+    ensures { IsLawfulTable table.now }
+{
+    let _name = table.name.bytes();
+    let _types = table.columns.types();
+}
+
+fn know_tables(tables: &[TableDef])
+    ensures { AllByRecursion IsLawfulTable tables.now }
+{
+    for table in tables {
+        know_table(table);
+    }
+}
+
 // What the type of a schema says of it.
 fn know_schema(schema: &Schema)
-    ensures { IsSchema schema.now }
+    ensures schema { IsSchema schema.now }
+    ensures each_table { AllByRecursion IsLawfulTable schema.now }
 {
-    let _tables = schema.tables();
+    know_tables(schema.tables());
 }
 
 impl Script {

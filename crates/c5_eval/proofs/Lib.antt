@@ -1,0 +1,5 @@
+mod Blocks
+mod OnStates
+mod OwnLemmas
+mod ReadBlocks
+mod Walks

@@ -1,0 +1,26 @@
+-- What one statement leaves of the rows that a body has set.
+use Rattle.std.specs.Prelude.{◌≡◌, List, [], Option, Some, None}
+use Rattle.std.specs.FinMap.{insert}
+use Rattle.c5_rows.specs.declared.cells.Cell.{Cell}
+use Rattle.c5_rows.specs.declared.writes.RowName.{RowName}
+use Rattle.c5_definitions.specs.declared.script.Statement.{Statement}
+use Rattle.c5_definitions.specs.Effects.{Effect, declines, keeps, sets, needed, effect_of}
+use Rattle.c5_definitions.specs.Follows.{Read, Own, Finds}
+use Rattle.c5_eval.specs.declared.steps.Step.{Step}
+use Rattle.c5_eval.specs.declared.steps.Step.TheVariants.{GoesOn, Declines}
+
+-- what an effect makes of the rows that were set, and whether the body goes on
+abbrev pub Acts : Effect → Own → Own → Step → Type 0
+Acts declines own after step = step ≡ Declines
+Acts keeps own after step = (step ≡ GoesOn) × (after ≡ own)
+Acts (sets name row) own after step = (step ≡ GoesOn) × (after ≡ insert own name row)
+
+-- the statement uses exactly these reads, and acts so
+abbrev pub Takes : Statement → Own → Own → List Read → Step → Type 0
+Takes statement own after reads step =
+    (found : Option (List Cell)) × Finds (needed statement) own reads found [] × Acts (effect_of statement found) own after step
+
+-- the row is set where there is one; else the statement declines
+abbrev pub set_or_declined : RowName → Option (List Cell) → Effect
+set_or_declined name None = declines
+set_or_declined name (Some row) = sets name (Some row)

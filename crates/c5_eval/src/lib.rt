@@ -1,0 +1,16 @@
+//! What bodies of transactions do, and what read blocks are answered, over any reader of rows.
+#![tactic(auto)]
+
+mod answers;
+mod law;
+mod over_rows;
+mod own;
+mod reading;
+mod steps;
+mod walking;
+
+pub use answers::answer;
+pub use law::evaluation_law;
+pub use over_rows::{RowsReader, answer_rows, evaluate_rows};
+pub use reading::{EvalFault, ReadRows};
+pub use walking::{Outcome, evaluate};

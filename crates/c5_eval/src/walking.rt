@@ -1,0 +1,53 @@
+//! Whole bodies.
+
+ghost use Rattle.std.specs.Prelude.{◌≡◌, ◌++◌, List, IfOk};
+ghost use Rattle.c5_definitions.specs.Follows.{Read, Follows, own_writes};
+ghost use Rattle.c5_eval.specs.Faults.{HasReadCause, Grew};
+
+use crate::own::Own;
+use crate::reading::{EvalFault, ReadRows};
+use crate::steps::{Step, perform};
+use c5_rows::Writes;
+use c5_script::Body;
+use std::alloc::Global;
+
+/// How a body ended.
+#[derive(Debug, Drop)]
+pub struct Outcome {
+    /// A statement declined. Then there are no writes.
+    pub declined: bool,
+    /// One write for each row that was set.
+    pub writes: Writes,
+}
+
+/// Reads a body from top to bottom. A row that it has set itself is not asked for.
+pub fn evaluate<R: ReadRows>(
+    alloc: Global,
+    body: &Body,
+    rows: &mut R,
+) -> Result<Outcome, EvalFault<R::Fault>>
+    // The outcome follows from the answers of this call.
+    ensures follows { IfOk result (λ outcome. (reads : List Read) × (R.asked rows.new ≡ R.asked rows.old ++ reads) × Follows body.now reads outcome.declined outcome.writes) }
+
+    // Whatever is answered:
+    ensures asked { Grew (R.asked rows.old) (R.asked rows.new) }
+    ensures base { R.base rows.new ≡ R.base rows.old }
+    ensures cause { HasReadCause (R.refusals rows.old) (R.refusals rows.new) result }
+{
+    let mut own = Own::new(alloc);
+    for statement in body.statements() {
+        match perform(statement, &mut own, rows)? {
+            Step::GoesOn => {}
+            Step::Declines => {
+                return Ok(Outcome {
+                    declined: true,
+                    writes: Writes::new(alloc),
+                });
+            }
+        }
+    }
+    Ok(Outcome {
+        declined: false,
+        writes: own.writes(alloc)?,
+    })
+}

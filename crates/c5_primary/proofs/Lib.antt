@@ -1,0 +1,4 @@
+pub mod EvalCounts
+pub mod EvalFits
+pub mod EvalOrder
+pub mod InOrderLaws

@@ -1,0 +1,44 @@
+-- How many names stand in a list that was sorted and whose repeated names were dropped.
+use Rattle.std.proofs.Common.{◌≡◌, Bool, true, List, [], length, subst, sym, refl}
+use Rattle.std.specs.Bool.{Decides}
+use Rattle.std.specs.Cmp.{eq_by_cmp_equiv, Equal-is}
+use Rattle.std.specs.List.{Contains, IsDistinct, dedup}
+use Rattle.std.specs.List.Retain.{IsFiltered, DiffersFromLast}
+use Rattle.std.specs.List.Sorted.{IsPermutation, IsSorted, IsStrictlySortedBy}
+use Rattle.std.specs.Ordering.{eq_by_cmp}
+use Rattle.std.specs.Set.{distinct_count, is_member}
+use Rattle.std.proofs.lemmas.Bool.Decides.{same_from_decides, Decides-like}
+use Rattle.std.proofs.lemmas.List.Filters.{dedup_is}
+use Rattle.std.proofs.lemmas.List.Kept.{Contains-dedup, Contains-from_dedup, IsStrictlySortedBy-dedup}
+use Rattle.std.proofs.lemmas.List.Sorted.{Contains-permutation, IsPermutation-sym}
+use Rattle.std.proofs.lemmas.Map.Keys.{IsDistinct-from_sorted}
+use Rattle.std.proofs.lemmas.Map.Made.{is_member-Decides, length-from_keys}
+use Rattle.c5_rows.specs.declared.writes.RowName.{RowName}
+use Rattle.c5_rows.specs.Order.{row_name_cmp, row_name_cmp_total, row_name_cmp_exact}
+
+abbrev same_name : RowName → RowName → Bool
+same_name = eq_by_cmp row_name_cmp
+
+exact : (a b : RowName) → same_name a b ≡ true → a ≡ b
+exact a b tie = row_name_cmp_exact a b ((Equal-is (row_name_cmp a b)).0 tie)
+
+decided : (a b : RowName) → Decides (same_name a b) (a ≡ b)
+decided a b = (exact a b, λ (e : a ≡ b). subst (λ (x : RowName). same_name a x ≡ true) e ((eq_by_cmp_equiv row_name_cmp_total).refl a))
+
+of_deduped : (xs ys zs : List RowName) → IsPermutation xs ys → IsSorted row_name_cmp ys → IsFiltered (DiffersFromLast same_name) [] ys zs → length zs ≡ distinct_count same_name xs
+of_deduped xs ys zs moved sorted filtered =
+    let laws = eq_by_cmp_equiv row_name_cmp_total in
+    let is : zs ≡ dedup same_name ys = dedup_is same_name ys zs filtered in
+    let strict : IsStrictlySortedBy row_name_cmp (dedup same_name ys) = IsStrictlySortedBy-dedup row_name_cmp_total (λ x y. refl) ys sorted in
+    let distinct : IsDistinct same_name zs = subst (IsDistinct same_name) (sym is) (IsDistinct-from_sorted row_name_cmp (dedup same_name ys) strict) in
+    let kept = λ (q : RowName) (h : Contains xs q). subst (λ (list : List RowName). Contains list q) (sym is) (Contains-dedup laws exact ys q (Contains-permutation xs ys q moved h)) in
+    let was = λ (q : RowName) (h : Contains zs q). Contains-permutation ys xs q (IsPermutation-sym xs ys moved) (Contains-from_dedup same_name ys q (subst (λ (list : List RowName). Contains list q) is h)) in
+    length-from_keys laws zs xs distinct (λ q. same_from_decides (is_member same_name zs q) (is_member same_name xs q) (is_member-Decides decided zs q)
+    (Decides-like (is_member same_name xs q) (kept q) (was q) (is_member-Decides decided xs q)))
+
+-- the same with another test of equal names
+pub count_of_deduped : (test : RowName → RowName → Bool) → ((x y : RowName) → test x y ≡ same_name x y) → (xs ys zs : List RowName) → IsPermutation xs ys → IsSorted row_name_cmp ys → IsFiltered (DiffersFromLast test) [] ys zs
+    → length zs ≡ distinct_count (eq_by_cmp row_name_cmp) xs
+count_of_deduped test ties xs ys zs moved sorted filtered =
+    let alike : test ≡ same_name = λ i x y. ties x y i in
+    of_deduped xs ys zs moved sorted (subst (λ (t : RowName → RowName → Bool). IsFiltered (DiffersFromLast t) [] ys zs) alike filtered)
