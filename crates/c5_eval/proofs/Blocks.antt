@@ -8,7 +8,7 @@ use Rattle.c5_rows.specs.declared.writes.RowName.{RowName}
 use Rattle.c5_rows.specs.declared.answer.AnswerLine.{AnswerLine}
 use Rattle.c5_definitions.specs.declared.script.ReadLine.{ReadLine}
 use Rattle.c5_definitions.specs.Follows.{Read}
-use Rattle.c5_definitions.specs.Answers.{names_in, table_names, asked_names, line_answer, lines_over, sum_in, or_zero, IsAnswered}
+use Rattle.c5_definitions.specs.Answers.{names_in, table_names, line_answer, lines_over, sum_in, or_zero, IsAnswered}
 use Rattle.c5_definitions.specs.Effects.{number_in}
 
 -- whatever answers the lines from this place on makes, behind this, the answer to all
@@ -31,16 +31,16 @@ pub rounds_on : (all : List ReadLine) (i : ℕ) (line : ReadLine) (reads taken :
 rounds_on all i line reads taken before answer lt is names made rounds more later rest =
     let here : drop i all ≡ line ∷ drop (i + 1) all = drop_more all i line lt ∙ ap (λ l. l ∷ drop (i + 1) all) (sym is) in
     let first : IsAnswered (line ∷ drop (i + 1) all) (taken ++ more) (answer ∷ later) =
-        subst (λ a. IsAnswered (line ∷ drop (i + 1) all) (taken ++ more) (a ∷ later)) (sym made) (line_first line (drop (i + 1) all) taken more later names rest) in
+    subst (λ a. IsAnswered (line ∷ drop (i + 1) all) (taken ++ more) (a ∷ later)) (sym made) (line_first line (drop (i + 1) all) taken more later names rest) in
     subst (λ rs. IsAnswered all rs ((before ++ answer ∷ []) ++ later)) (sym (append_assoc reads taken more))
     (subst (λ ls. IsAnswered all (reads ++ (taken ++ more)) ls) (sym (append_assoc before (answer ∷ []) later))
-     (rounds (taken ++ more) (answer ∷ later) (subst (λ ls. IsAnswered ls (taken ++ more) (answer ∷ later)) (sym here) first)))
+    (rounds (taken ++ more) (answer ∷ later) (subst (λ ls. IsAnswered ls (taken ++ more) (answer ∷ later)) (sym here) first)))
 
 pub rounds_end : (all : List ReadLine) (i : ℕ) (reads : List Read) (answer : List AnswerLine) → length all ≤ i → Rounds all (drop i all) reads answer → IsAnswered all reads answer
 rounds_end all i reads answer le rounds =
     subst (λ rs. IsAnswered all rs answer) (append-nil reads)
     (subst (λ ls. IsAnswered all (reads ++ []) ls) (append-nil answer)
-     (rounds [] [] (subst (λ ls. IsAnswered ls [] []) (sym (drop_all i all le)) (record { names = refl; answers = refl }))))
+    (rounds [] [] (subst (λ ls. IsAnswered ls [] []) (sym (drop_all i all le)) (record { names = refl; answers = refl }))))
 
 -- ---- one row more of a sum
 

@@ -1,6 +1,6 @@
 -- What a body does over answered reads is what it does on a state that answers so.
-use Rattle.std.proofs.Common.{◌≡◌, ℕ, Bool, true, false, cond, ◌&&◌, T, List, [], ◌∷◌, ◌++◌, Option, Some, None, map, take, drop, length, refl, ap, sym, subst, ◌∙◌, Ordering, Less, Equal, Greater, MatchOption}
-use Rattle.std.specs.FinMap.{FinMap, empty, get, insert, remove, entries, entries_sorted, keys, find, put, is_sorted, get-entries, get-insert, get-remove, get-empty, entries-insert, len-entries, len-empty}
+use Rattle.std.proofs.Common.{◌≡◌, Bool, true, false, cond, ◌&&◌, T, List, [], ◌∷◌, ◌++◌, Option, Some, None, map, refl, ap, sym, subst, ◌∙◌, Ordering, Less, Equal, Greater, MatchOption}
+use Rattle.std.specs.FinMap.{FinMap, empty, get, insert, entries, entries_sorted, keys, find, put, is_sorted, get-entries, get-insert, get-remove, get-empty, entries-insert, len-entries, len-empty}
 use Rattle.std.specs.FinMap.Entries.{by_order, below_all}
 use Rattle.std.specs.Ordering.{eq_by_cmp, is_eq, is_lt, ordering_reverse}
 use Rattle.std.specs.Cmp.{tied_itself}
@@ -12,8 +12,8 @@ use Rattle.c5_rows.specs.declared.writes.Write.{Write}
 use Rattle.c5_rows.specs.Order.{row_name_cmp, row_name_cmp_total}
 use Rattle.c5_rows.specs.State.{State, after_change}
 use Rattle.c5_definitions.specs.declared.script.Statement.{Statement}
-use Rattle.c5_definitions.specs.Effects.{Effect, declines, keeps, sets, needed, effect_of}
-use Rattle.c5_definitions.specs.Eval.{Ending, Progress, change_to, write_of, row_in, set_row, run, ending_of, eval}
+use Rattle.c5_definitions.specs.Effects.{declines, keeps, sets, needed, effect_of}
+use Rattle.c5_definitions.specs.Eval.{Progress, change_to, write_of, row_in, set_row, run, ending_of, eval}
 use Rattle.c5_definitions.specs.Follows.{Read, Own, AnsweredBy, Finds, FollowsFrom, Follows, own_writes}
 use Rattle.c5_eval.specs.Reader.{ReaderState}
 

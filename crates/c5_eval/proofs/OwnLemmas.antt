@@ -1,5 +1,5 @@
 -- The finite map that the entries of a tree make, and the writes that it makes.
-use Rattle.std.proofs.Common.{◌≡◌, ℕ, Bool, true, false, cond, ◌&&◌, T, subst, append_assoc, List, [], ◌∷◌, ◌++◌, Option, Some, None, map, refl, ap, sym, ◌∙◌, Ordering, Less, Equal, Greater}
+use Rattle.std.proofs.Common.{◌≡◌, Bool, true, false, cond, ◌&&◌, T, subst, append_assoc, List, [], ◌∷◌, ◌++◌, Option, Some, map, refl, ap, sym, ◌∙◌, Ordering, Less, Equal, Greater}
 use Rattle.std.specs.FinMap.{get, insert, entries, entries_sorted, from_entries, find, put, is_sorted, same_map, get-insert, get-from_entries, entries-insert, len-entries, len-empty, empty}
 use Rattle.std.specs.FinMap.Entries.{below_all}
 use Rattle.std.specs.Ordering.{eq_by_cmp, is_lt, ordering_reverse}

@@ -7,7 +7,7 @@ use Rattle.c5_rows.specs.declared.writes.RowName.{RowName}
 use Rattle.c5_rows.specs.declared.writes.Write.{Write}
 use Rattle.c5_definitions.specs.declared.script.Statement.{Statement}
 use Rattle.c5_definitions.specs.Effects.{Effect, declines, keeps, sets, needed, effect_of}
-use Rattle.c5_definitions.specs.Follows.{Read, Own, Finds, FollowsFrom, own_writes}
+use Rattle.c5_definitions.specs.Follows.{Read, Own, Finds, FollowsFrom, Follows, own_writes}
 use Rattle.c5_eval.specs.declared.steps.Step.{Step}
 use Rattle.c5_eval.specs.declared.steps.Step.TheVariants.{GoesOn, Declines}
 use Rattle.c5_eval.specs.Stepping.{Acts, Takes}
@@ -24,26 +24,32 @@ found_before (Some name) own reads more row finds =
 -- a statement that lets the body go on, and then the others
 pub goes_on : (statement : Statement) (statements : List Statement) (own after : Own) (reads more : List Read) (step : Step) (declined : Bool) (writes : List Write) →
     Takes statement own after reads step → step ≡ GoesOn → FollowsFrom statements after more declined writes → FollowsFrom (statement ∷ statements) own (reads ++ more) declined writes
-goes_on statement statements own after reads more step declined writes (found, finds, acts) goes rest =
-    (found, more, found_before (needed statement) own reads more found finds,
-     elim (effect_of statement found) as (λ e. Acts e own after step → elim e as (λ _. Type 0) [ declines ↦ (more ≡ []) × (declined ≡ true) × (writes ≡ []) | keeps ↦ FollowsFrom statements own more declined writes | sets name set ↦ FollowsFrom statements (insert own name set) more declined writes ]) [
-       | declines ↦ λ is. absurd (apart (sym is ∙ goes))
-       | keeps ↦ λ is. subst (λ (o : Own). FollowsFrom statements o more declined writes) is.1 rest
-       | sets name set ↦ λ is. subst (λ (o : Own). FollowsFrom statements o more declined writes) is.1 rest
-     ] acts) where
+goes_on statement statements own after reads more step declined writes (found, finds, acts) goes rest = (
+  found,
+  more,
+  found_before (needed statement) own reads more found finds,
+  elim (effect_of statement found) as (λ e. Acts e own after step → elim e as (λ _. Type 0) [ declines ↦ (more ≡ []) × (declined ≡ true) × (writes ≡ []) | keeps ↦ FollowsFrom statements own more declined writes | sets name set ↦ FollowsFrom statements (insert own name set) more declined writes ]) [
+    | declines ↦ λ is. absurd (apart (sym is ∙ goes))
+    | keeps ↦ λ is. subst (λ (o : Own). FollowsFrom statements o more declined writes) is.1 rest
+    | sets name set ↦ λ is. subst (λ (o : Own). FollowsFrom statements o more declined writes) is.1 rest
+  ] acts,
+) where
   apart : Declines ≡ GoesOn → ⊥
   apart e = cc
 
 -- a statement that declines ends the body
 pub declines_all : (statement : Statement) (statements : List Statement) (own after : Own) (reads : List Read) (step : Step) →
     Takes statement own after reads step → step ≡ Declines → FollowsFrom (statement ∷ statements) own reads true []
-declines_all statement statements own after reads step (found, finds, acts) declined =
-    (found, [], finds,
-     elim (effect_of statement found) as (λ e. Acts e own after step → elim e as (λ _. Type 0) [ declines ↦ (◌≡◌ {A = List Read} [] []) × (true ≡ true) × (◌≡◌ {A = List Write} [] []) | keeps ↦ FollowsFrom statements own [] true [] | sets name set ↦ FollowsFrom statements (insert own name set) [] true [] ]) [
-       | declines ↦ λ is. (refl, refl, refl)
-       | keeps ↦ λ is. absurd (apart (sym is.0 ∙ declined))
-       | sets name set ↦ λ is. absurd (apart (sym is.0 ∙ declined))
-     ] acts) where
+declines_all statement statements own after reads step (found, finds, acts) declined = (
+  found,
+  [],
+  finds,
+  elim (effect_of statement found) as (λ e. Acts e own after step → elim e as (λ _. Type 0) [ declines ↦ (◌≡◌ {A = List Read} [] []) × (true ≡ true) × (◌≡◌ {A = List Write} [] []) | keeps ↦ FollowsFrom statements own [] true [] | sets name set ↦ FollowsFrom statements (insert own name set) [] true [] ]) [
+    | declines ↦ λ is. (refl, refl, refl)
+    | keeps ↦ λ is. absurd (apart (sym is.0 ∙ declined))
+    | sets name set ↦ λ is. absurd (apart (sym is.0 ∙ declined))
+  ] acts,
+) where
   apart : GoesOn ≡ Declines → ⊥
   apart e = cc
 
@@ -75,3 +81,9 @@ read_on before reads taken now later first second = second ∙ ap (λ rs. rs ++ 
 
 pub acts_alike : (a b : Effect) (own after : Own) (step : Step) → a ≡ b → Acts b own after step → Acts a own after step
 acts_alike a b own after step same acts = subst (λ e. Acts e own after step) (sym same) acts
+
+-- the same ending of the same body
+pub follows_alike : (body all : List Statement) (reads : List Read) (declined declined' : Bool) (writes writes' : List Write) → all ≡ body → declined' ≡ declined → writes' ≡ writes → FollowsFrom all empty reads declined writes → Follows body reads declined' writes'
+follows_alike body all reads declined declined' writes writes' same same_end same_writes follows =
+    subst (λ (ss : List Statement). FollowsFrom ss empty reads declined' writes') same
+    (subst (λ (d : Bool). FollowsFrom all empty reads d writes') (sym same_end) (subst (λ (ws : List Write). FollowsFrom all empty reads declined ws) (sym same_writes) follows))

@@ -7,6 +7,8 @@ mod over_rows;
 mod own;
 mod reading;
 mod steps;
+#[cfg(test)]
+mod tests;
 mod walking;
 
 pub use answers::answer;

@@ -1,13 +1,13 @@
 //! Whole bodies.
 
-ghost use Rattle.std.specs.Prelude.{◌≡◌, ◌++◌, List, IfOk};
+ghost use Rattle.std.specs.Prelude.{◌≡◌, ◌++◌, List, [], IfOk, if◌then◌else◌};
 ghost use Rattle.c5_definitions.specs.Follows.{Read, Follows, own_writes};
 ghost use Rattle.c5_eval.specs.Faults.{HasReadCause, Grew};
 
 use crate::own::Own;
 use crate::reading::{EvalFault, ReadRows};
 use crate::steps::{Step, perform};
-use c5_rows::Writes;
+use c5_rows::{NoMemory, Writes};
 use c5_script::Body;
 use std::alloc::Global;
 
@@ -18,6 +18,18 @@ pub struct Outcome {
     pub declined: bool,
     /// One write for each row that was set.
     pub writes: Writes,
+}
+
+// How a body ends that has set these rows.
+fn ending(alloc: Global, own: &Own, declined: bool) -> Result<Outcome, NoMemory>
+    ensures { IfOk result (λ outcome. outcome ≡ record { declined = declined; writes = (if declined then [] else own_writes own.now) }) }
+{
+    let writes = if declined {
+        Writes::new(alloc)
+    } else {
+        own.writes(alloc)?
+    };
+    Ok(Outcome { declined, writes })
 }
 
 /// Reads a body from top to bottom. A row that it has set itself is not asked for.
@@ -38,16 +50,8 @@ pub fn evaluate<R: ReadRows>(
     for statement in body.statements() {
         match perform(statement, &mut own, rows)? {
             Step::GoesOn => {}
-            Step::Declines => {
-                return Ok(Outcome {
-                    declined: true,
-                    writes: Writes::new(alloc),
-                });
-            }
+            Step::Declines => return Ok(ending(alloc, &own, true)?),
         }
     }
-    Ok(Outcome {
-        declined: false,
-        writes: own.writes(alloc)?,
-    })
+    Ok(ending(alloc, &own, false)?)
 }

@@ -1,5 +1,12 @@
-pub mod Numbers
-pub mod Reading
-pub mod Header
-pub mod Payload
-pub mod Partial
+pub mod Payloads
+pub mod Refs
+pub mod Stages
+pub mod Index
+pub mod Progress
+pub mod Log
+pub mod Holding
+pub mod Buffer
+pub mod Feeding
+pub mod Decoding
+pub mod Laws
+pub mod LawFaults

@@ -1,55 +1,70 @@
-//! The header of a log.
+//! The items that are no payload.
 
-ghost use Rattle.std.specs.Prelude.{◌≡◌, ◌≤◌, [], length};
-ghost use Rattle.c5_frames.specs.Reading.{Gives};
-ghost use Rattle.c5_frames.specs.Header.{count_at, bytes_at, name_at, type_at, types_of, columns_at, table_at, tables_at, magic_at, header_at};
+ghost use Rattle.std.specs.Prelude.{◌≡◌, ◌≤◌, ◌<◌, ◌-◌, ◌==◌, ◌++◌, ◌∷◌, ℕ, List, [], None, is_some, length, if◌then◌else◌};
+ghost use Rattle.c5_rows.specs.Tables.{table_of};
+ghost use Rattle.c5_rows.specs.declared.tables.TableDef as the_table;
+ghost use Rattle.c5_definitions.specs.Items.{the_magic, table_count, name_length, table_name, column_count, column_types, frame_length, frame_payload, number_in, name_in, type_in, types_in, size_of};
+ghost use Rattle.c5_frames.specs.Payloads.{Gives};
+ghost use Rattle.c5_frames.specs.Stages.{item_of};
+ghost use Rattle.c5_frames.specs.Progress.{tables_of, tables_after, AreComing, IsDue, IsPlain};
 
-use crate::kinds::LogKind;
+use crate::numbers::u32_in;
+use crate::stage::Stage;
+use c5_definitions::LogKind;
 use c5_rows::{CellType, Columns, Schema, TableDef, TableName};
 
 const MAGIC: [u8; 4] = *b"C5L1";
 
-#[tactic(auto, unfolding(crate::specs::Header::count_at))]
-fn count_in(low: u8, high: u8, bytes: &[u8]) -> Result<(u8, &[u8]), LogKind>
-    ensures { Gives (λ x. (x.0, x.1.now)) result (count_at low high bytes.now) }
+#[tactic(auto, unfolding(c5_definitions::specs::Items::number_in))]
+fn number_in(low: u8, high: u8, item: &[u8]) -> Result<u8, LogKind>
+    ensures { result ≡ number_in low high item.now }
 {
-    let Some((count, rest)) = bytes.split_first() else {
-        return Err(LogKind::Cut);
-    };
-    let count = *count;
-    if count < low || count > high {
-        return Err(LogKind::Header);
+    match item {
+        [] => Err(LogKind::Header),
+        [number, ..] if *number < low || *number > high => Err(LogKind::Header),
+        [number, ..] => Ok(*number),
     }
-    Ok((count, rest))
 }
 
-#[tactic(auto, unfolding(crate::specs::Header::bytes_at))]
-fn bytes_in(count: u8, bytes: &[u8]) -> Result<(&[u8], &[u8]), LogKind>
-    ensures { Gives (λ x. (x.0.now, x.1.now)) result (bytes_at count bytes.now) }
+/// The tables that have come.
+pub fn tables_in(schema: &Option<Schema>) -> &[TableDef]
+    ensures { result.now ≡ tables_of schema.now }
 {
-    let count = count as usize;
-    if bytes.len() < count {
-        return Err(LogKind::Cut);
+    match schema {
+        None => &[],
+        Some(schema) => schema.tables(),
     }
-    let (front, rest) = bytes.split_at(count);
-    Ok((front, rest))
 }
 
-#[tactic(auto, unfolding(crate::specs::Header::name_at))]
-fn name_in(bytes: &[u8]) -> Result<(TableName, &[u8]), LogKind>
-    ensures { Gives (λ x. (x.0, x.1.now)) result (name_at bytes.now) }
+// Whether a table has the name.
+fn is_taken(schema: &Option<Schema>, name: &TableName) -> bool
+    ensures { result ≡ is_some (table_of name.now (tables_of schema.now)) }
 {
-    let (count, rest) = count_in(1, 16, bytes)?;
-    let (front, rest) = bytes_in(count, rest)?;
-    match TableName::new(front) {
-        Ok(name) => Ok((name, rest)),
+    match schema {
+        None => false,
+        Some(schema) => schema.find(name).is_some(),
+    }
+}
+
+#[tactic(auto, unfolding(c5_definitions::specs::Items::name_in))]
+fn name_in(schema: &Option<Schema>, item: &[u8]) -> Result<TableName, LogKind>
+    ensures { result ≡ name_in (tables_of schema.now) item.now }
+{
+    match TableName::new(item) {
+        Ok(name) => {
+            if is_taken(schema, &name) {
+                Err(LogKind::Header)
+            } else {
+                Ok(name)
+            }
+        }
         Err(_) => Err(LogKind::Header),
     }
 }
 
-#[tactic(auto, unfolding(crate::specs::Header::type_at))]
-fn type_of(byte: u8) -> Result<CellType, LogKind>
-    ensures { result ≡ type_at byte }
+#[tactic(auto, unfolding(c5_definitions::specs::Items::type_in))]
+fn type_in(byte: u8) -> Result<CellType, LogKind>
+    ensures { result ≡ type_in byte }
 {
     match byte {
         1 => Ok(CellType::Int),
@@ -59,107 +74,161 @@ fn type_of(byte: u8) -> Result<CellType, LogKind>
 }
 
 // The columns of the types that these bytes stand for.
-fn columns_of(bytes: &[u8]) -> Result<Columns, LogKind>
-    requires some { 1 ≤ length bytes.now }
-    requires at_most_eight { length bytes.now ≤ 8 }
-    ensures { result ≡ types_of bytes.now }
+fn columns_in(item: &[u8]) -> Result<Columns, LogKind>
+    requires some { 1 ≤ length item.now }
+    requires at_most_eight { length item.now ≤ 8 }
+    ensures { result ≡ types_in item.now }
 {
     let mut types = [CellType::Int; 8];
-    for (column, byte) in bytes.iter().enumerate() {
-        let cell_type = type_of(*byte)?;
+    for (column, byte) in item.iter().enumerate() {
+        let cell_type = type_in(*byte)?;
         types[column] = cell_type;
     }
-    match Columns::new(&types[..bytes.len()]) {
+    match Columns::new(&types[..item.len()]) {
         Some(columns) => Ok(columns),
         None => unreachable!(),
     }
 }
 
-#[tactic(auto, unfolding(crate::specs::Header::columns_at, crate::specs::Header::count_at, crate::specs::Header::bytes_at))]
-fn columns_in(bytes: &[u8]) -> Result<(Columns, &[u8]), LogKind>
-    ensures { Gives (λ x. (x.0, x.1.now)) result (columns_at bytes.now) }
+// Adds a table, whose name is new.
+fn add_table(schema: &mut Option<Schema>, table: TableDef)
+    requires new { table_of table.name (tables_of schema.old) ≡ None }
+    requires room { length (tables_of schema.old) < 16 }
+    ensures { tables_of schema.new ≡ tables_of schema.old ++ table ∷ [] }
 {
-    let (count, rest) = count_in(1, 8, bytes)?;
-    let (front, rest) = bytes_in(count, rest)?;
-    let columns = columns_of(front)?;
-    Ok((columns, rest))
-}
-
-#[tactic(auto, unfolding(crate::specs::Header::table_at))]
-fn first_table_in(bytes: &[u8]) -> Result<(TableDef, &[u8]), LogKind>
-    ensures { Gives (λ x. (x.0, x.1.now)) result (table_at [] bytes.now) }
-{
-    let (name, rest) = match name_in(bytes) {
-        Ok(found) => found,
-        Err(kind) => return Err(kind),
-    };
-    let (columns, rest) = match columns_in(rest) {
-        Ok(found) => found,
-        Err(kind) => return Err(kind),
-    };
-    Ok((TableDef { name, columns }, rest))
-}
-
-#[tactic(auto, unfolding(crate::specs::Header::table_at))]
-fn next_table_in<'a>(earlier: &Schema, bytes: &'a [u8]) -> Result<(TableDef, &'a [u8]), LogKind>
-    ensures { Gives (λ x. (x.0, x.1.now)) result (table_at earlier.now bytes.now) }
-{
-    let (name, rest) = match name_in(bytes) {
-        Ok(found) => found,
-        Err(kind) => return Err(kind),
-    };
-    if earlier.find(&name).is_some() {
-        return Err(LogKind::Header);
-    }
-    let (columns, rest) = match columns_in(rest) {
-        Ok(found) => found,
-        Err(kind) => return Err(kind),
-    };
-    Ok((TableDef { name, columns }, rest))
-}
-
-// So many tables.
-fn tables_in(count: u8, bytes: &[u8]) -> Result<(Schema, &[u8]), LogKind>
-    requires some { 1 ≤ count }
-    requires at_most_sixteen { count ≤ 16 }
-    ensures { Gives (λ x. (x.0, x.1.now)) result (tables_at count [] bytes.now) }
-{
-    let (first, mut rest) = match first_table_in(bytes) {
-        Ok(found) => found,
-        Err(kind) => return Err(kind),
-    };
-    let mut schema = Schema::one(first);
-    for _ in 1..count {
-        let (table, after) = match next_table_in(&schema, rest) {
-            Ok(found) => found,
-            Err(kind) => return Err(kind),
-        };
-        match schema.push(table) {
+    match schema {
+        None => *schema = Some(Schema::one(table)),
+        Some(tables) => match tables.push(table) {
             Ok(()) => {}
             Err(_) => unreachable!(),
-        }
-        rest = after;
+        },
     }
-    Ok((schema, rest))
 }
 
-#[tactic(auto, unfolding(crate::specs::Header::magic_at))]
-fn after_magic(bytes: &[u8]) -> Result<&[u8], LogKind>
-    ensures { Gives (λ x. x.now) result (magic_at bytes.now) }
+#[tactic(auto, unfolding(c5_definitions::specs::Items::after_item))]
+fn after_magic(item: &[u8]) -> Result<Stage, LogKind>
+    ensures { (tables : List the_table.TableDef) → Gives (λ stage. (tables, item_of stage)) result (tables_after the_magic tables item.now) }
 {
-    let (front, rest) = bytes_in(4, bytes)?;
-    if front != MAGIC.as_slice() {
+    if item != MAGIC.as_slice() {
         return Err(LogKind::Magic);
     }
-    Ok(rest)
+    Ok(Stage::TableCount)
 }
 
-/// The tables of a log, and the bytes after the header.
-#[tactic(auto, unfolding(crate::specs::Header::header_at, crate::specs::Header::count_at))]
-pub fn header_in(bytes: &[u8]) -> Result<(Schema, &[u8]), LogKind>
-    ensures { Gives (λ x. (x.0, x.1.now)) result (header_at bytes.now) }
+#[tactic(auto, unfolding(c5_definitions::specs::Items::after_item))]
+fn after_table_count(item: &[u8]) -> Result<Stage, LogKind>
+    ensures { (tables : List the_table.TableDef) → Gives (λ stage. (tables, item_of stage)) result (tables_after table_count tables item.now) }
 {
-    let rest = after_magic(bytes)?;
-    let (count, rest) = count_in(1, 16, rest)?;
-    tables_in(count, rest)
+    match number_in(1, 16, item) {
+        Ok(missing) => Ok(Stage::NameLength { missing }),
+        Err(kind) => Err(kind),
+    }
+}
+
+#[tactic(auto, unfolding(c5_definitions::specs::Items::after_item))]
+fn after_name_length(missing: u8, item: &[u8]) -> Result<Stage, LogKind>
+    ensures { (tables : List the_table.TableDef) → Gives (λ stage. (tables, item_of stage)) result (tables_after (name_length missing) tables item.now) }
+{
+    match number_in(1, 16, item) {
+        Ok(size) => Ok(Stage::NameBytes { missing, size }),
+        Err(kind) => Err(kind),
+    }
+}
+
+#[tactic(auto, unfolding(c5_definitions::specs::Items::after_item))]
+fn after_name(schema: &Option<Schema>, missing: u8, item: &[u8]) -> Result<Stage, LogKind>
+    ensures { (size : ℕ) → Gives (λ stage. (tables_of schema.now, item_of stage)) result (tables_after (table_name missing size) (tables_of schema.now) item.now) }
+{
+    match name_in(schema, item) {
+        Ok(name) => Ok(Stage::ColumnCount { missing, name }),
+        Err(kind) => Err(kind),
+    }
+}
+
+#[tactic(auto, unfolding(c5_definitions::specs::Items::after_item))]
+fn after_column_count(missing: u8, name: TableName, item: &[u8]) -> Result<Stage, LogKind>
+    ensures { (tables : List the_table.TableDef) → Gives (λ stage. (tables, item_of stage)) result (tables_after (column_count missing name) tables item.now) }
+{
+    match number_in(1, 8, item) {
+        Ok(size) => Ok(Stage::ColumnTypes {
+            missing,
+            name,
+            size,
+        }),
+        Err(kind) => Err(kind),
+    }
+}
+
+#[tactic(auto, unfolding(c5_definitions::specs::Items::after_item))]
+fn after_column_types(
+    schema: &mut Option<Schema>,
+    missing: u8,
+    name: TableName,
+    item: &[u8],
+) -> Result<Stage, LogKind>
+    requires some { 1 ≤ length item.now }
+    requires at_most_eight { length item.now ≤ 8 }
+    requires coming { AreComing (tables_of schema.old) missing }
+    requires new { table_of name (tables_of schema.old) ≡ None }
+    ensures { (size : ℕ) → Gives (λ stage. (tables_of schema.new, item_of stage)) result (tables_after (column_types missing name size) (tables_of schema.old) item.now) }
+{
+    match columns_in(item) {
+        Ok(columns) => {
+            add_table(schema, TableDef { name, columns });
+            Ok(stage_behind_table(missing))
+        }
+        Err(kind) => Err(kind),
+    }
+}
+
+// Behind the last table the frames begin.
+fn stage_behind_table(missing: u8) -> Stage
+    requires { 1 ≤ missing }
+    ensures { item_of result ≡ (if missing == 1 then frame_length else name_length (missing - 1)) }
+{
+    if missing == 1 {
+        Stage::FrameLength
+    } else {
+        Stage::NameLength {
+            missing: missing - 1,
+        }
+    }
+}
+
+/// The number of bytes of the payload behind a length.
+#[tactic(auto, unfolding(c5_definitions::specs::Items::after_item))]
+pub fn after_frame_length(item: &[u8]) -> Result<u32, LogKind>
+    requires { 4 ≤ length item.now }
+    ensures { (tables : List the_table.TableDef) → Gives (λ size. (tables, frame_payload size)) result (tables_after frame_length tables item.now) }
+{
+    let size = u32_in(item);
+    if size < 5 || size > 300 {
+        return Err(LogKind::Length);
+    }
+    Ok(size)
+}
+
+/// The item behind one that is no payload. A table that has come whole is added.
+pub fn after_plain(schema: &mut Option<Schema>, stage: Stage, item: &[u8]) -> Result<Stage, LogKind>
+    requires plain { IsPlain (item_of stage) }
+    requires due { IsDue (item_of stage) (tables_of schema.old) }
+    requires whole { length item.now ≡ size_of (item_of stage) }
+    ensures { Gives (λ next. (tables_of schema.new, item_of next)) result (tables_after (item_of stage) (tables_of schema.old) item.now) }
+{
+    match stage {
+        Stage::Magic => after_magic(item),
+        Stage::TableCount => after_table_count(item),
+        Stage::NameLength { missing } => after_name_length(missing, item),
+        Stage::NameBytes { missing, .. } => after_name(schema, missing, item),
+        Stage::ColumnCount { missing, name } => after_column_count(missing, name, item),
+        Stage::ColumnTypes { missing, name, .. } => {
+            after_column_types(schema, missing, name, item)
+        }
+        Stage::FrameLength => match after_frame_length(item) {
+            Ok(size) => Ok(Stage::Payload { size }),
+            Err(kind) => Err(kind),
+        },
+        Stage::Payload { .. } => unreachable!(),
+        Stage::NothingMore => Err(LogKind::After),
+    }
 }

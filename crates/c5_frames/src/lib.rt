@@ -1,5 +1,6 @@
-//! Reads a whole log from bytes, and spells one: what is read is spelled so, each byte of it, and what is
-//! spelled is read.
+//! Decodes a log that comes in pieces, however it is cut, and spells one. A log has one spelling, and bytes
+//! that are none have a first fault: where it is, and which test fails there. What is decoded lies in the
+//! bytes that were fed, and its writes are borrowed from them.
 //!
 //! | part | bytes |
 //! |---|---|
@@ -15,19 +16,30 @@
 //! Numbers have their highest byte first.
 #![tactic(auto)]
 
+mod buffer;
+mod cells;
+mod decoder;
 mod encoding;
-mod fault;
-mod first;
+mod frames;
 mod header;
-mod kinds;
+mod index;
+mod laws;
 mod numbers;
-mod partial;
 mod payload;
+mod progress;
+mod refs;
+mod stage;
+mod steps;
 
+pub use buffer::LogBuffer;
+pub use c5_definitions::{LogFault, LogKind};
+pub use decoder::{Decoder, FeedFault};
 pub use encoding::encode;
-pub use fault::FirstFault;
-pub use first::{FirstLog, read_first};
-pub use kinds::LogKind;
+pub use index::TxnRef;
+pub use laws::{one_log, worked_faults};
+pub use refs::{RowRef, WriteRef};
 
+#[cfg(test)]
+mod ref_tests;
 #[cfg(test)]
 mod tests;

@@ -1,11 +1,14 @@
-//! Frames and their payloads.
+//! The payload of a frame, tested where it lies: nothing is built of it and no byte is copied.
 
-ghost use Rattle.std.specs.Prelude.{◌≡◌, ◌≤◌, length};
-ghost use Rattle.c5_frames.specs.Reading.{Gives};
+ghost use Rattle.std.specs.Prelude.{◌≡◌, if◌then◌else◌};
+ghost use Rattle.std.specs.List.{list_all};
+ghost use Rattle.c5_rows.specs.Bytes.{is_key_byte, is_text_byte, checked_bytes};
+ghost use Rattle.c5_definitions.specs.Steps.{or_cause};
+ghost use Rattle.c5_definitions.specs.Frames.{key_at, int_at, text_at, cell_at, cells_at, row_at, change_at, mark_at, end_at};
 
-use crate::kinds::LogKind;
-use crate::numbers::{i64_in, u32_in, u64_in};
-use c5_rows::{Cell, CellType, Change, Key, Row, RowName, TableDef, TextCell, Write};
+use crate::numbers::{u32_in, u64_in};
+use c5_definitions::LogKind;
+use c5_rows::{CellType, TableDef};
 
 /// The numbers of a commit mark.
 #[derive(Clone, Copy, Debug, PartialEq, Eq)]
@@ -15,40 +18,73 @@ pub struct Mark {
     pub count: u32,
 }
 
-/// What a frame holds.
-#[derive(Clone, Copy, Debug, PartialEq, Eq)]
-pub enum Frame {
-    Write(Write),
+/// The name of a write: the number of its table, and the bytes of its key where they lie.
+#[derive(Clone, Copy, Debug)]
+pub struct NameRef<'a> {
+    pub table: u8,
+    pub key: &'a [u8],
+}
+
+/// What a payload that passes all tests of its own holds.
+#[derive(Clone, Copy, Debug)]
+pub enum Checked<'a> {
+    Write(NameRef<'a>),
     Mark(Mark),
     /// The end mark, with the number of transactions.
     End(u32),
 }
 
-ghost use Rattle.c5_frames.specs.Payload.{payload_at, key_at, int_at, text_at, cell_at, row_at, change_at, write_at, mark_at, end_at, frame_at};
+ghost use Rattle.c5_frames.specs.Payloads.{Gives, Passes, behind, shown_at, shown_by, numbers_of, name_of, name_at};
 
-/// The payload of the first frame, and the bytes after it.
-#[tactic(auto, unfolding(crate::specs::Payload::payload_at))]
-pub fn payload_in(bytes: &[u8]) -> Result<(&[u8], &[u8]), LogKind>
-    ensures { Gives (λ x. (x.0.now, x.1.now)) result (payload_at bytes.now) }
+fn is_key_byte(byte: u8) -> bool
+    ensures { result ≡ is_key_byte byte }
 {
-    if bytes.len() < 4 {
-        return Err(LogKind::Cut);
-    }
-    let length = u32_in(bytes) as usize;
-    let rest = &bytes[4..];
-    if length < 5 || length > 300 {
-        return Err(LogKind::Length);
-    }
-    if rest.len() < length {
-        return Err(LogKind::Cut);
-    }
-    let (payload, after) = rest.split_at(length);
-    Ok((payload, after))
+    byte >= 0x21 && byte <= 0x7e && byte != b'"'
 }
 
-#[tactic(auto, unfolding(crate::specs::Payload::key_at))]
-fn key_in(bytes: &[u8]) -> Result<(Key, &[u8]), LogKind>
-    ensures { Gives (λ x. (x.0, x.1.now)) result (key_at bytes.now) }
+fn is_text_byte(byte: u8) -> bool
+    ensures { result ≡ is_text_byte byte }
+{
+    byte >= 0x20 && byte <= 0x7e && byte != b'"'
+}
+
+// Each byte is tested, also behind one that is not allowed: so there is no branch in the loop.
+fn are_key_bytes(bytes: &[u8]) -> bool
+    ensures { result ≡ list_all is_key_byte bytes.now }
+{
+    let mut all = true;
+    for byte in bytes {
+        all = all & is_key_byte(*byte);
+    }
+    all
+}
+
+fn are_text_bytes(bytes: &[u8]) -> bool
+    ensures { result ≡ list_all is_text_byte bytes.now }
+{
+    let mut all = true;
+    for byte in bytes {
+        all = all & is_text_byte(*byte);
+    }
+    all
+}
+
+fn is_key(bytes: &[u8]) -> bool
+    ensures { or_cause LogKind.Key (checked_bytes 1 32 is_key_byte bytes.now) ≡ (if result then Ok bytes.now else Err LogKind.Key) }
+{
+    bytes.len() >= 1 && bytes.len() <= 32 && are_key_bytes(bytes)
+}
+
+fn is_text(bytes: &[u8]) -> bool
+    ensures { or_cause LogKind.Cell (checked_bytes 0 32 is_text_byte bytes.now) ≡ (if result then Ok bytes.now else Err LogKind.Cell) }
+{
+    bytes.len() <= 32 && are_text_bytes(bytes)
+}
+
+// The key, and the bytes behind it.
+#[tactic(auto, unfolding(c5_definitions::specs::Frames::key_at))]
+fn skip_key(bytes: &[u8]) -> Result<(&[u8], &[u8]), LogKind>
+    ensures { Gives (λ x. (x.0.now, x.1.now)) result (key_at bytes.now) }
 {
     let Some((length, rest)) = bytes.split_first() else {
         return Err(LogKind::Key);
@@ -58,15 +94,15 @@ fn key_in(bytes: &[u8]) -> Result<(Key, &[u8]), LogKind>
         return Err(LogKind::Key);
     }
     let (key, rest) = rest.split_at(length);
-    match Key::new(key) {
-        Ok(key) => Ok((key, rest)),
-        Err(_) => Err(LogKind::Key),
+    if !is_key(key) {
+        return Err(LogKind::Key);
     }
+    Ok((key, rest))
 }
 
-#[tactic(auto, unfolding(crate::specs::Payload::text_at))]
-fn text_in(bytes: &[u8]) -> Result<(Cell, &[u8]), LogKind>
-    ensures { Gives (λ x. (x.0, x.1.now)) result (text_at bytes.now) }
+#[tactic(auto, unfolding(c5_definitions::specs::Frames::text_at))]
+fn skip_text(bytes: &[u8]) -> Result<&[u8], LogKind>
+    ensures { Gives (λ x. x.now) result (behind (text_at bytes.now)) }
 {
     let Some((length, rest)) = bytes.split_first() else {
         return Err(LogKind::Cell);
@@ -76,78 +112,73 @@ fn text_in(bytes: &[u8]) -> Result<(Cell, &[u8]), LogKind>
         return Err(LogKind::Cell);
     }
     let (text, rest) = rest.split_at(length);
-    match TextCell::new(text) {
-        Ok(text) => Ok((Cell::Txt(text), rest)),
-        Err(_) => Err(LogKind::Cell),
+    if !is_text(text) {
+        return Err(LogKind::Cell);
     }
+    Ok(rest)
 }
 
-#[tactic(auto, unfolding(crate::specs::Payload::int_at))]
-fn int_in(bytes: &[u8]) -> Result<(Cell, &[u8]), LogKind>
-    ensures { Gives (λ x. (x.0, x.1.now)) result (int_at bytes.now) }
+#[tactic(auto, unfolding(c5_definitions::specs::Frames::int_at))]
+fn skip_int(bytes: &[u8]) -> Result<&[u8], LogKind>
+    ensures { Gives (λ x. x.now) result (behind (int_at bytes.now)) }
 {
     if bytes.len() < 8 {
         return Err(LogKind::Cell);
     }
-    Ok((Cell::Int(i64_in(bytes)), &bytes[8..]))
+    Ok(&bytes[8..])
 }
 
-#[tactic(auto, unfolding(crate::specs::Payload::cell_at))]
-fn cell_in(cell_type: CellType, bytes: &[u8]) -> Result<(Cell, &[u8]), LogKind>
-    ensures { Gives (λ x. (x.0, x.1.now)) result (cell_at cell_type bytes.now) }
+#[tactic(auto, unfolding(c5_definitions::specs::Frames::cell_at))]
+fn skip_cell(cell_type: CellType, bytes: &[u8]) -> Result<&[u8], LogKind>
+    ensures { Gives (λ x. x.now) result (behind (cell_at cell_type bytes.now)) }
 {
     match cell_type {
-        CellType::Int => int_in(bytes),
-        CellType::Text => text_in(bytes),
+        CellType::Int => skip_int(bytes),
+        CellType::Text => skip_text(bytes),
     }
 }
 
-// The row whose cells, one for each column, are exactly these bytes.
-fn row_in(columns: &[CellType], bytes: &[u8]) -> Result<Row, LogKind>
-    requires some { 1 ≤ length columns.now }
-    requires at_most_eight { length columns.now ≤ 8 }
-    ensures { result ≡ row_at columns.now bytes.now }
+// Behind a cell for each column.
+fn skip_cells<'a>(columns: &[CellType], bytes: &'a [u8]) -> Result<&'a [u8], LogKind>
+    ensures { Gives (λ x. x.now) result (behind (cells_at columns.now bytes.now)) }
 {
-    let mut cells = [Cell::Int(0); 8];
     let mut rest = bytes;
-    for (column, cell_type) in columns.iter().enumerate() {
-        let (cell, after) = match cell_in(*cell_type, rest) {
-            Ok(found) => found,
+    for cell_type in columns {
+        rest = match skip_cell(*cell_type, rest) {
+            Ok(after) => after,
             Err(kind) => return Err(kind),
         };
-        cells[column] = cell;
-        rest = after;
     }
-    if !rest.is_empty() {
-        return Err(LogKind::Cell);
-    }
-    match Row::new(&cells[..columns.len()]) {
-        Some(row) => Ok(row),
-        None => unreachable!(),
+    Ok(rest)
+}
+
+// Whether the bytes are exactly a cell for each column.
+fn check_row(columns: &[CellType], bytes: &[u8]) -> Result<(), LogKind>
+    ensures { Passes result (row_at columns.now bytes.now) }
+{
+    match skip_cells(columns, bytes) {
+        Ok([]) => Ok(()),
+        Ok(_) => Err(LogKind::Cell),
+        Err(kind) => Err(kind),
     }
 }
 
-#[tactic(auto, unfolding(crate::specs::Payload::change_at))]
-fn change_in(columns: &[CellType], bytes: &[u8]) -> Result<Change, LogKind>
-    requires some { 1 ≤ length columns.now }
-    requires at_most_eight { length columns.now ≤ 8 }
-    ensures { result ≡ change_at columns.now bytes.now }
+#[tactic(auto, unfolding(c5_definitions::specs::Frames::change_at))]
+fn check_change(columns: &[CellType], bytes: &[u8]) -> Result<(), LogKind>
+    ensures { Passes result (change_at columns.now bytes.now) }
 {
     match bytes {
         [] => Err(LogKind::Cell),
-        [0, rest @ ..] => {
-            let row = row_in(columns, rest)?;
-            Ok(Change::Put(row))
-        }
-        [1] => Ok(Change::Gone),
+        [0, rest @ ..] => check_row(columns, rest),
+        [1] => Ok(()),
         [_, ..] => Err(LogKind::Cell),
     }
 }
 
-// The write whose payload this is, behind the byte `W`.
-#[tactic(auto, unfolding(crate::specs::Payload::write_at, crate::specs::Payload::table_numbered))]
-fn write_in(tables: &[TableDef], bytes: &[u8]) -> Result<Write, LogKind>
-    ensures { result ≡ write_at tables.now bytes.now }
+// What stands behind the byte `W`.
+#[tactic(auto, unfolding(c5_definitions::specs::Frames::write_at, c5_definitions::specs::Frames::table_numbered))]
+fn check_write<'a>(tables: &[TableDef], bytes: &'a [u8]) -> Result<NameRef<'a>, LogKind>
+    ensures { Gives name_of result (name_at tables.now bytes.now) }
 {
     let Some((number, rest)) = bytes.split_first() else {
         return Err(LogKind::Table);
@@ -155,21 +186,23 @@ fn write_in(tables: &[TableDef], bytes: &[u8]) -> Result<Write, LogKind>
     let Some(table) = tables.get(*number as usize) else {
         return Err(LogKind::Table);
     };
-    let (key, rest) = match key_in(rest) {
+    let (key, rest) = match skip_key(rest) {
         Ok(found) => found,
         Err(kind) => return Err(kind),
     };
-    let change = change_in(table.columns.types(), rest)?;
-    let name = RowName {
-        table: *number,
-        key,
-    };
-    Ok(Write { name, change })
+    match check_change(table.columns.types(), rest) {
+        Ok(()) => Ok(NameRef {
+            table: *number,
+            key,
+        }),
+        Err(kind) => Err(kind),
+    }
 }
 
-#[tactic(auto, unfolding(crate::specs::Payload::mark_at))]
+// What stands behind the byte `C`.
+#[tactic(auto, unfolding(c5_definitions::specs::Frames::mark_at))]
 fn mark_in(bytes: &[u8]) -> Result<Mark, LogKind>
-    ensures { result ≡ mark_at bytes.now }
+    ensures { Gives numbers_of result (mark_at bytes.now) }
 {
     if bytes.len() != 16 {
         return Err(LogKind::Length);
@@ -181,7 +214,8 @@ fn mark_in(bytes: &[u8]) -> Result<Mark, LogKind>
     })
 }
 
-#[tactic(auto, unfolding(crate::specs::Payload::end_at))]
+// What stands behind the byte `E`.
+#[tactic(auto, unfolding(c5_definitions::specs::Frames::end_at))]
 fn end_in(bytes: &[u8]) -> Result<u32, LogKind>
     ensures { result ≡ end_at bytes.now }
 {
@@ -191,24 +225,25 @@ fn end_in(bytes: &[u8]) -> Result<u32, LogKind>
     Ok(u32_in(bytes))
 }
 
-/// What the payload holds.
-#[tactic(auto, unfolding(crate::specs::Payload::frame_at))]
-pub fn frame_in(tables: &[TableDef], payload: &[u8]) -> Result<Frame, LogKind>
-    ensures { result ≡ frame_at tables.now payload.now }
+/// The name of the write that the payload holds, or the numbers of its mark; else the kind of the first
+/// of its own tests that it fails.
+#[tactic(auto, unfolding(c5_definitions::specs::Frames::frame_at))]
+pub fn check_payload<'a>(tables: &[TableDef], payload: &'a [u8]) -> Result<Checked<'a>, LogKind>
+    ensures { Gives shown_by result (shown_at tables.now payload.now) }
 {
     match payload {
-        [b'W', rest @ ..] => {
-            let write = write_in(tables, rest)?;
-            Ok(Frame::Write(write))
-        }
-        [b'C', rest @ ..] => {
-            let mark = mark_in(rest)?;
-            Ok(Frame::Mark(mark))
-        }
-        [b'E', rest @ ..] => {
-            let count = end_in(rest)?;
-            Ok(Frame::End(count))
-        }
+        [b'W', rest @ ..] => match check_write(tables, rest) {
+            Ok(name) => Ok(Checked::Write(name)),
+            Err(kind) => Err(kind),
+        },
+        [b'C', rest @ ..] => match mark_in(rest) {
+            Ok(mark) => Ok(Checked::Mark(mark)),
+            Err(kind) => Err(kind),
+        },
+        [b'E', rest @ ..] => match end_in(rest) {
+            Ok(count) => Ok(Checked::End(count)),
+            Err(kind) => Err(kind),
+        },
         _ => Err(LogKind::Kind),
     }
 }

@@ -1,5 +1,4 @@
-use Rattle.std.proofs.Common.{◌≡◌, ◌++◌, List, subst, rules}
-use Rattle.c5_rows.specs.declared.answer.AnswerLine.{AnswerLine}
+use Rattle.std.proofs.Common.{◌++◌, List, subst, rules}
 use Rattle.c5_definitions.specs.declared.script.ReadLine.{ReadLine}
 use Rattle.c5_definitions.specs.Answers.{IsAnswered}
 use Rattle.c5_eval.proofs.Walks.{read_on}
@@ -12,8 +11,11 @@ loop-line-preserved g c =
     let rounds = before.rounds in
     let answered = c.in-Ok.ensures.answered in
     record {
-      rounds = (rounds.0 ++ answered.0, read_on _ rounds.0 answered.0 _ _ rounds.1 answered.1,
-        rw c.in_ok-push-in-Ok.ensures.ok (rounds_on _ _ c.line-item.result rounds.0 answered.0 c.loop-line.answer c.in-Ok.line c.loop-line-test.true c.line-item.is answered.2 answered.3 rounds.2));
+      rounds = (
+        rounds.0 ++ answered.0,
+        read_on _ rounds.0 answered.0 _ _ rounds.1 answered.1,
+        rw c.in_ok-push-in-Ok.ensures.ok (rounds_on _ _ c.line-item.result rounds.0 answered.0 c.loop-line.answer c.in-Ok.line c.loop-line-test.true c.line-item.is answered.2 answered.3 rounds.2),
+      );
       base = search rules;
       refusals = search rules;
       items = before.items;

@@ -1,4 +1,4 @@
-use Rattle.std.proofs.Common.{◌≡◌, ◌*◌, ◌+◌, ◌≤◌, ◌++◌, List, map, take, ℤ, pos, neg_ℤ, ◌≤ℤ◌}
+use Rattle.std.proofs.Common.{◌≡◌, ◌*◌, ◌++◌, List, map, take, pos, neg_ℤ, ◌≤ℤ◌}
 use Rattle.c5_definitions.specs.Follows.{Read}
 use Rattle.c5_definitions.specs.Answers.{sum_in, table_names}
 use Rattle.c5_eval.proofs.answers.sum.Given as goal

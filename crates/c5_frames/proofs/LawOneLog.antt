@@ -1,0 +1,180 @@
+-- Bytes without a fault are a log, of one list of tables and of transactions only.
+use Rattle.std.proofs.Common.{◌≡◌, ◌∙◌, ◌-◌, ◌<◌, ◌≤◌, ◌≢◌, ◌⊎◌, ℕ, List, [], ◌∷◌, ◌++◌, length, get_or, Option, Some, None, Result, Ok, Err, Fits, w8, refl, sym, ap, arith, inl, inr}
+use Rattle.std.proofs.lemmas.Bool.{cases_lt}
+use Rattle.std.proofs.lemmas.List.{get_or_past}
+use Rattle.c5_rows.specs.declared.tables.TableDef.{TableDef}
+use Rattle.c5_rows.specs.declared.writes.Txn.{Txn}
+use Rattle.c5_definitions.specs.declared.fault.LogKind.{LogKind}
+use Rattle.c5_definitions.specs.declared.fault.LogKind.TheVariants as kinds
+use Rattle.c5_definitions.specs.declared.fault.LogFault.{LogFault}
+use Rattle.c5_definitions.specs.Lawful.{Spells}
+use Rattle.c5_definitions.specs.Steps.{◌>>=◌}
+use Rattle.c5_definitions.specs.Items.{Item, the_magic, table_count, name_length, table_name, column_count, column_types, frame_length, frame_payload, nothing_more, Reading, after_item, after_whole, after_byte, after_bytes, at_start, LogParts, whole_from, whole, log_of, fault_of}
+use Rattle.c5_frames.specs.Laws.{AreOctets}
+use Rattle.c5_frames.proofs.LawBytes.{after_bytes-append}
+use Rattle.c5_frames.proofs.LawFields.{done, ok_is}
+use Rattle.c5_frames.proofs.LawWalk.{at_item}
+use Rattle.c5_frames.proofs.LawFrames.{log-read, ended}
+use Rattle.c5_frames.proofs.LawOffsets.{log_of-within}
+use Rattle.c5_frames.proofs.LawSound.{log_is_spelled}
+
+-- each place of a list of bytes, also one behind its end, which counts as 0
+pub octets-small : (bytes : List ℕ) → AreOctets bytes → (i : ℕ) → get_or bytes i 0 < 256
+octets-small bytes octets i =
+    elim (cases_lt i (length bytes)) [
+      | inl lt ↦ octets i 0 lt
+      | inr le ↦ omega (arith, get_or_past bytes i 0 le)
+    ]
+
+-- ---- what is read is spelled so, and what is spelled is read
+
+-- the premise is what a proof knows of a parameter `bytes: &[u8]`, as `c.type_inv.bytes`
+pub log_of-spells : (bytes : List ℕ) → ((i : ℕ) → Fits w8 (get_or bytes i 0)) → (log : LogParts) → log_of bytes ≡ Ok log → Spells bytes log.tables log.txns
+log_of-spells bytes small log e = log_is_spelled bytes (λ i. (small i).fits) log e
+
+-- the same of a list of bytes in a clause
+pub log_of-octets : (bytes : List ℕ) → AreOctets bytes → (log : LogParts) → log_of bytes ≡ Ok log → Spells bytes log.tables log.txns
+log_of-octets bytes octets log e = log_is_spelled bytes (octets-small bytes octets) log e
+
+-- all bytes of a log lead behind its end mark
+pub spells-after_bytes : (bytes : List ℕ) (tables : List TableDef) (txns : List Txn) → Spells bytes tables txns → (stop : ℕ) × (after_bytes at_start bytes ≡ Ok (at_item (ended tables txns) stop))
+spells-after_bytes bytes tables txns spells = log-read bytes tables txns spells 0
+
+pub spells-log_of : (bytes : List ℕ) (tables : List TableDef) (txns : List Txn) → Spells bytes tables txns → log_of bytes ≡ Ok (record { tables = tables; txns = txns })
+unfolding log_of whole whole_from
+spells-log_of bytes tables txns spells =
+    let read = spells-after_bytes bytes tables txns spells in
+    ap (λ (r : Result Reading LogFault). r >>= whole) read.1
+
+-- ---- one log, and nothing behind it
+
+pub spells-one : (bytes : List ℕ) (tables others : List TableDef) (txns more : List Txn) → Spells bytes tables txns → Spells bytes others more → (tables ≡ others) × (txns ≡ more)
+spells-one bytes tables others txns more a b =
+    let same : record { tables = tables; txns = txns } ≡ record { tables = others; txns = more } = ok_is {A = LogParts} {E = LogFault} _ _ (sym (spells-log_of bytes tables txns a) ∙ spells-log_of bytes others more b) in
+    (ap (λ (l : LogParts). l.tables) same, ap (λ (l : LogParts). l.txns) same)
+
+never : {A E : Type 0} (x : A) (cause : E) (r : Result A E) → r ≡ Ok x → r ≡ Err cause → ⊥
+never {A} {E} x cause r ok err =
+    let clash : done {E = E} x ≡ Err cause = sym ok ∙ err in
+    cc
+
+-- a byte behind the end mark is the fault
+pub after_end-byte : (tables : List TableDef) (txns : List Txn) (stop byte : ℕ) (bytes : List ℕ) → after_bytes (at_item (ended tables txns) stop) (byte ∷ bytes) ≡ Err (record { offset = stop; kind = kinds.After })
+unfolding after_bytes after_byte after_whole after_item
+after_end-byte tables txns stop byte bytes = refl
+
+pub log-then-more : (front : List ℕ) (byte : ℕ) (rest : List ℕ) (tables : List TableDef) (txns : List Txn) → Spells front tables txns → (stop : ℕ) × (log_of (front ++ byte ∷ rest) ≡ Err (record { offset = stop; kind = kinds.After }))
+unfolding log_of
+log-then-more front byte rest tables txns spells =
+    let read = spells-after_bytes front tables txns spells in (
+      read.0,
+      ap (λ (r : Result Reading LogFault). r >>= whole)
+          (after_bytes-append at_start front (byte ∷ rest)
+          ∙ ap (λ (r : Result Reading LogFault). r >>= λ next. after_bytes next (byte ∷ rest)) read.1
+          ∙ after_end-byte tables txns read.0 byte rest),
+    )
+
+pub spells-no_prefix : (front rest : List ℕ) (tables others : List TableDef) (txns more : List Txn) → Spells front tables txns → Spells (front ++ rest) others more → rest ≡ []
+spells-no_prefix front [] tables others txns more a b = refl
+spells-no_prefix front (byte ∷ rest) tables others txns more a b =
+    let after = log-then-more front byte rest tables txns a in
+    absurd (never (record { tables = others; txns = more }) _ (log_of (front ++ byte ∷ rest)) (spells-log_of (front ++ byte ∷ rest) others more b) after.1)
+
+-- ---- faults
+
+-- a fault that is found before the input ends stays
+pub fault-stays : (front rest : List ℕ) (fault : LogFault) → after_bytes at_start front ≡ Err fault → log_of (front ++ rest) ≡ Err fault
+unfolding log_of
+fault-stays front rest fault e =
+    ap (λ (r : Result Reading LogFault). r >>= whole)
+    (after_bytes-append at_start front rest ∙ ap (λ (r : Result Reading LogFault). r >>= λ next. after_bytes next rest) e)
+
+abbrev failed : {A E : Type 0} → E → Result A E
+failed cause = Err cause
+
+err_is : {A E : Type 0} (x y : E) → failed {A = A} x ≡ failed {A = A} y → x ≡ y
+err_is x y e = cc
+
+cut_is : (offset : ℕ) (fault : LogFault) → failed {A = LogParts} (record { offset = offset; kind = kinds.Cut }) ≡ failed fault → fault.kind ≡ kinds.Cut
+cut_is offset fault e = sym (ap (λ (f : LogFault). f.kind) (err_is {A = LogParts} (record { offset = offset; kind = kinds.Cut }) fault e))
+
+-- at the end of the input nothing but bytes can be missing
+pub whole-cut : (item : Item) (r : Reading) (fault : LogFault) → whole_from item r ≡ Err fault → fault.kind ≡ kinds.Cut
+unfolding whole_from
+whole-cut nothing_more r fault e = absurd cc
+whole-cut the_magic r fault e = cut_is r.offset fault e
+whole-cut table_count r fault e = cut_is r.offset fault e
+whole-cut (name_length missing) r fault e = cut_is r.offset fault e
+whole-cut (table_name missing size) r fault e = cut_is r.offset fault e
+whole-cut (column_count missing name) r fault e = cut_is r.offset fault e
+whole-cut (column_types missing name size) r fault e = cut_is r.offset fault e
+whole-cut frame_length r fault e = cut_is r.offset fault e
+whole-cut (frame_payload size) r fault e = cut_is (r.offset - 4) fault e
+
+-- so any other fault was found before
+pub found-before : (bytes : List ℕ) (fault : LogFault) → log_of bytes ≡ Err fault → fault.kind ≢ kinds.Cut → after_bytes at_start bytes ≡ Err fault
+unfolding log_of whole
+found-before bytes fault e other = by_bytes (after_bytes at_start bytes) fault e other
+  where
+    by_bytes : (found : Result Reading LogFault) (fault : LogFault) → (found >>= λ r. whole_from r.so_far.next r) ≡ Err fault → fault.kind ≢ kinds.Cut → found ≡ Err fault
+    by_bytes (Ok r) fault e other = absurd (other (whole-cut r.so_far.next r fault e))
+    by_bytes (Err cause) fault e other = ap (λ (f : LogFault). Err f) (err_is {A = LogParts} cause fault e)
+
+-- ---- the fault of bytes
+
+abbrev fault_in : Result LogParts LogFault → Option LogFault
+fault_in found = elim found [ Ok log ↦ None | Err fault ↦ Some fault ]
+
+none_in : (found : Result LogParts LogFault) → fault_in found ≡ None → (log : LogParts) × (found ≡ Ok log)
+none_in (Ok log) e = (log, refl)
+none_in (Err fault) e = absurd cc
+
+some_in : (found : Result LogParts LogFault) (fault : LogFault) → fault_in found ≡ Some fault → found ≡ Err fault
+some_in (Ok log) fault e = absurd cc
+some_in (Err cause) fault e =
+    let same : cause ≡ fault = cc in
+    ap (λ (f : LogFault). Err f) same
+
+pub fault_of-none : (bytes : List ℕ) → fault_of bytes ≡ None → (log : LogParts) × (log_of bytes ≡ Ok log)
+unfolding fault_of
+fault_of-none bytes e = none_in (log_of bytes) e
+
+pub fault_of-some : (bytes : List ℕ) (fault : LogFault) → fault_of bytes ≡ Some fault → log_of bytes ≡ Err fault
+unfolding fault_of
+fault_of-some bytes fault e = some_in (log_of bytes) fault e
+
+pub fault_of-ok : (bytes : List ℕ) (log : LogParts) → log_of bytes ≡ Ok log → fault_of bytes ≡ None
+unfolding fault_of
+fault_of-ok bytes log e = ap fault_in e
+
+pub fault_of-err : (bytes : List ℕ) (fault : LogFault) → log_of bytes ≡ Err fault → fault_of bytes ≡ Some fault
+unfolding fault_of
+fault_of-err bytes fault e = ap fault_in e
+
+pub fault_of-stays : (front rest : List ℕ) (fault : LogFault) → fault_of front ≡ Some fault → fault.kind ≢ kinds.Cut → fault_of (front ++ rest) ≡ Some fault
+fault_of-stays front rest fault e other =
+    fault_of-err (front ++ rest) fault (fault-stays front rest fault (found-before front fault (fault_of-some front fault e) other))
+
+-- ---- the fronts of a log
+
+is_cut : (kind : LogKind) → (kind ≡ kinds.Cut) ⊎ (kind ≢ kinds.Cut)
+is_cut kinds.Cut = inl refl
+is_cut other = inr (λ e. absurd cc)
+
+pub front-cut : (front rest : List ℕ) → AreOctets front → (tables : List TableDef) (txns : List Txn) → Spells (front ++ rest) tables txns → rest ≢ [] → (fault : LogFault) × (fault_of front ≡ Some fault) × (fault.kind ≡ kinds.Cut)
+front-cut front rest octets tables txns spells some =
+    elim (fault_of front) as (λ (o : Option LogFault). fault_of front ≡ o → (fault : LogFault) × (fault_of front ≡ Some fault) × (fault.kind ≡ kinds.Cut)) [
+      | None ↦ λ e.
+          let log = fault_of-none front e in
+          absurd (some (spells-no_prefix front rest log.0.tables tables log.0.txns txns (log_of-octets front octets log.0 log.1) spells))
+      | Some fault ↦ λ e. elim (is_cut fault.kind) [
+        | inl cut ↦ (fault, e, cut)
+        | inr other ↦
+            let stays = fault_of-stays front rest fault e other in
+            let none = fault_of-ok (front ++ rest) (record { tables = tables; txns = txns }) (spells-log_of (front ++ rest) tables txns spells) in
+            absurd cc
+      ]
+    ] refl
+
+pub fault_of-within : (bytes : List ℕ) (fault : LogFault) → fault_of bytes ≡ Some fault → fault.offset ≤ length bytes
+fault_of-within bytes fault e = log_of-within bytes fault (fault_of-some bytes fault e)

@@ -1,0 +1,10 @@
+use Rattle.std.proofs.Common.{◌-◌, ℕ, length}
+use Rattle.c5_frames.specs.Progress.{IsReady}
+use Rattle.c5_frames.proofs.steps.take_items.Given as goal
+
+-- what has come whole before is taken
+abbrev pub invariant-loop-p : goal.invariant-loop-p
+invariant-loop-p l = IsReady l.bytes l.p
+
+abbrev pub decreases-loop-p : goal.decreases-loop-p
+decreases-loop-p l = length l.bytes - l.p.at

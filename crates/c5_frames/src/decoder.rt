@@ -1,0 +1,203 @@
+//! The decoder of a log that comes in pieces.
+
+ghost use Rattle.std.specs.Prelude.{◌≡◌, ◌≤◌, ◌+◌, ◌-◌, ◌++◌, List, [], None, Ok, Err, IfOk, IfErr, OnOk, OnErr, length};
+ghost use Rattle.c5_rows.specs.declared.tables.TableDef.{TableDef};
+ghost use Rattle.c5_rows.specs.declared.writes.Txn.{Txn};
+ghost use Rattle.c5_definitions.specs.Items.{LogParts, log_of, after_bytes, at_start};
+ghost use Rattle.c5_definitions.specs.Lawful.{Spells};
+ghost use Rattle.c5_frames.specs.Feeding.{Feeds, Finishes};
+ghost use Rattle.c5_frames.specs.Index.{HasRoom};
+ghost use Rattle.c5_frames.specs.Progress.{Decodes, state_of};
+
+use crate::buffer::{LogBuffer, make_buffer};
+use crate::index::Index;
+use crate::progress::Progress;
+use crate::stage::{Stage, begin_of_item, is_end};
+use crate::steps::take_items;
+use c5_definitions::{LogFault, LogKind};
+use c5_rows::NoMemory;
+use std::alloc::Global;
+use std::marker::Model;
+use thiserror::Error;
+
+/// Why a piece of a log was not taken, or is of no log.
+#[derive(Debug, Drop, Error)]
+pub enum FeedFault {
+    /// The bytes that were fed have a fault.
+    #[error("the log is faulty")]
+    Log(LogFault),
+    /// Memory was refused.
+    #[error("out of memory")]
+    NoMemory,
+}
+
+// Takes the memory for a piece, and copies it.
+fn take_piece(bytes: &mut Vec<u8>, progress: &mut Progress, piece: &[u8]) -> Result<(), NoMemory>
+    requires within { progress.old.at ≤ length bytes.old.items }
+    requires small { length bytes.old.items + length piece.now ≤ 88080384 }
+    ensures state { state_of progress.new ≡ state_of progress.old }
+    ensures ok { OnOk result (bytes.new.items ≡ bytes.old.items ++ piece.now) }
+    ensures room { OnOk result (HasRoom (length bytes.new.items - progress.new.at) progress.new.index) }
+    ensures err { OnErr result (bytes.new.items ≡ bytes.old.items) }
+{
+    let behind = bytes.len() + piece.len() - progress.at as usize;
+    progress.index.reserve(behind)?;
+    bytes.extend_from_slice(piece)?;
+    Ok(())
+}
+
+// Takes a piece where no fault has come.
+fn feed_whole(
+    bytes: &mut Vec<u8>,
+    progress: &mut Progress,
+    fault: &mut Option<LogFault>,
+    piece: &[u8],
+) -> Result<(), FeedFault>
+    requires decodes { Decodes bytes.old.items progress.old None }
+    requires none { fault.old ≡ None }
+    requires small { length bytes.old.items + length piece.now ≤ 88080384 }
+    ensures feeds { Feeds bytes.old.items piece.now bytes.new.items result }
+    ensures decodes { Decodes bytes.new.items progress.new fault.new }
+{
+    match take_piece(bytes, progress, piece) {
+        Ok(()) => {}
+        Err(_) => return Err(FeedFault::NoMemory),
+    }
+    match take_items(bytes, progress) {
+        Ok(()) => Ok(()),
+        Err(found) => {
+            *fault = Some(found);
+            Err(FeedFault::Log(found))
+        }
+    }
+}
+
+// Takes a piece behind a fault.
+fn feed_faulty(bytes: &mut Vec<u8>, found: LogFault, piece: &[u8]) -> Result<(), FeedFault>
+    requires fault { after_bytes at_start bytes.old.items ≡ Err found }
+    ensures feeds { Feeds bytes.old.items piece.now bytes.new.items result }
+    ensures fault { after_bytes at_start bytes.new.items ≡ Err found }
+{
+    match bytes.extend_from_slice(piece) {
+        Ok(()) => Err(FeedFault::Log(found)),
+        Err(_) => Err(FeedFault::NoMemory),
+    }
+}
+
+fn feed_piece(
+    bytes: &mut Vec<u8>,
+    progress: &mut Progress,
+    fault: &mut Option<LogFault>,
+    piece: &[u8],
+) -> Result<(), FeedFault>
+    requires decodes { Decodes bytes.old.items progress.old fault.old }
+    requires small { length bytes.old.items + length piece.now ≤ 88080384 }
+    ensures feeds { Feeds bytes.old.items piece.now bytes.new.items result }
+    ensures decodes { Decodes bytes.new.items progress.new fault.new }
+{
+    match *fault {
+        Some(found) => feed_faulty(bytes, found, piece),
+        None => feed_whole(bytes, progress, fault, piece),
+    }
+}
+
+// What is read of bytes is what they spell.
+fn spells(bytes: &[u8])
+    ensures { (log : LogParts) → log_of bytes.now ≡ Ok log → Spells bytes.now log.tables log.txns }
+{}
+
+fn finish_log(bytes: Vec<u8>, progress: Progress) -> Result<LogBuffer, LogFault>
+    requires { Decodes bytes.items progress None }
+    ensures read { Finishes bytes.items result }
+    ensures spelled { IfOk result (λ log. Spells bytes.items log.tables log.txns) }
+{
+    let Progress {
+        schema,
+        stage,
+        at,
+        index,
+    } = progress;
+    if !is_end(&stage) {
+        return Err(LogFault {
+            offset: begin_of_item(&stage, at),
+            kind: LogKind::Cut,
+        });
+    }
+    spells(&bytes);
+    match schema {
+        Some(schema) => Ok(make_buffer(bytes, schema, index)),
+        None => unreachable!(),
+    }
+}
+
+/// Decodes a log that comes in pieces. To contracts it is the bytes that were fed.
+#[derive(Debug, Drop)]
+pub struct Decoder {
+    bytes: Vec<u8>,
+    progress: Progress,
+    // The fault of the bytes.
+    fault: Option<LogFault>,
+}
+
+impl Model for Decoder {
+    ghost use Rattle.std.specs.Prelude.{ℕ, List};
+
+    ghost Value = { List ℕ };
+
+    ghost use Rattle.c5_frames.specs.Decoding.{bytes_of, IsDecoder};
+
+    ghost view = { bytes_of };
+
+    ghost invariant = { IsDecoder };
+}
+
+impl Decoder {
+    /// Nothing has been fed.
+    pub fn new(alloc: Global) -> Self
+        ensures { result ≡ [] }
+    {
+        Decoder {
+            bytes: Vec::new(alloc),
+            progress: Progress {
+                schema: None,
+                stage: Stage::Magic,
+                at: 0,
+                index: Index::new(alloc),
+            },
+            fault: None,
+        }
+    }
+
+    /// The number of bytes that were fed.
+    pub fn fed(&self) -> u32
+        ensures { result ≡ length self.now }
+    {
+        self.bytes.len() as u32
+    }
+
+    /// Takes the next piece. `NoMemory` changes nothing; `Log` is the fault of the bytes that were fed.
+    pub fn feed(&mut self, piece: &[u8]) -> Result<(), FeedFault>
+        requires { length self.old + length piece.now ≤ 88080384 }
+        ensures { Feeds self.old piece.now self.new result }
+    {
+        feed_piece(&mut self.bytes, &mut self.progress, &mut self.fault, piece)
+    }
+
+    /// The log of all bytes that were fed, or their fault.
+    pub fn finish(self) -> Result<LogBuffer, LogFault>
+        ensures read { Finishes self result }
+        ensures spelled { IfOk result (λ log. Spells self log.tables log.txns) }
+        // Bytes with a fault are the spelling of no log.
+        ensures refused { IfErr result (λ fault. (tables : List TableDef) (txns : List Txn) → Spells self tables txns → ⊥) }
+    {
+        let Decoder {
+            bytes,
+            progress,
+            fault,
+        } = self;
+        match fault {
+            Some(fault) => Err(fault),
+            None => finish_log(bytes, progress),
+        }
+    }
+}
