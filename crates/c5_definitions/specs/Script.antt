@@ -5,7 +5,7 @@ use Rattle.c5_definitions.specs.declared.script.ScriptKind.TheVariants as kinds
 use Rattle.c5_definitions.specs.declared.script.ScriptFault.{ScriptFault}
 use Rattle.c5_definitions.specs.Steps.{◌>>=◌}
 use Rattle.c5_definitions.specs.ScriptParts.{ScriptParts}
-use Rattle.c5_definitions.specs.ScriptSoFar.{ScriptSoFar, script_start, is_closed, script_of as parts_of}
+use Rattle.c5_definitions.specs.ScriptSoFar.{ScriptSoFar, script_start, is_closed, parts_of}
 use Rattle.c5_definitions.specs.Lines.{lines_of, behind_lines, words_of}
 use Rattle.c5_definitions.specs.Statements.{after_line, FrontLine, goes_on, log_follows, after_front_line}
 

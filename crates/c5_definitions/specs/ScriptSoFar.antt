@@ -42,5 +42,5 @@ unfoldable pub is_closed : ScriptSoFar → Bool
 is_closed s = is_outside s.block && has_table s
 
 -- the script that ends here
-abbrev pub script_of : ScriptSoFar → ScriptParts
-script_of s = record { tables = s.tables; bodies = s.bodies; reads = s.reads; turns = s.turns }
+abbrev pub parts_of : ScriptSoFar → ScriptParts
+parts_of s = record { tables = s.tables; bodies = s.bodies; reads = s.reads; turns = s.turns }

@@ -1,5 +1,6 @@
-//! What a log is, what state it leaves and how rows are printed: the definitions that the contracts
-//! of the other crates cite. Laws check them against logs that were worked by hand.
+//! What a log is, what state it leaves and how rows are printed; what a script is, what its statements do,
+//! and what a serial run of it is: the definitions that the contracts of the other crates cite, and the plain
+//! types that they speak of. Laws check them against logs and scripts that were worked by hand.
 #![tactic(auto)]
 
 mod fault;

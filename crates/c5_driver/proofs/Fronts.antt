@@ -27,7 +27,7 @@ second_is_front a b c first second more grew part =
     let n = part.0 in
     let short = part.1 in
     let same : take (length first + n) (first ++ second ++ more) ≡ first ++ take n second =
-      take-append-le (length first + n) (first ++ second) more (omega (arith, length-append first second, short)) ∙ take-append-add first second n in
+    take-append-le (length first + n) (first ++ second) more (omega (arith, length-append first second, short)) ∙ take-append-add first second n in
     (length first + n, subst (Appends a c) (sym same) (Appends-trans a b c first (take n second) grew part.2))
 
 -- the same of a last part

@@ -20,11 +20,7 @@ const PIECE: usize = 128 * 1024;
 const LIMIT: u32 = 88_080_384;
 
 // One read of at most `room` bytes.
-fn read_piece<S: Source>(
-    source: &mut S,
-    piece: &mut [u8],
-    room: usize,
-) -> Result<usize, Failed>
+fn read_piece<S: Source>(source: &mut S, piece: &mut [u8], room: usize) -> Result<usize, Failed>
     requires room { 1 ≤ room }
     requires piece { 1 ≤ length piece.old }
     ensures fits { IfOk result (λ n. n ≤ length piece.new) }

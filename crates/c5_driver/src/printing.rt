@@ -149,7 +149,12 @@ pub fn refuse<K: Sink>(sink: &mut K, refusal: Refusal)
             ending_of_script(fault.kind),
         ),
         Refusal::BadLog(fault) => {
-            tell_place(sink, b"bad log at ", fault.offset, ending_of_log(fault.kind))
+            tell_place(
+                sink,
+                b"bad log at ",
+                fault.offset,
+                ending_of_log(fault.kind),
+            )
         }
         Refusal::Limit(excess) => tell(sink, line_of_limit(excess)),
         Refusal::ReadFault | Refusal::NoMemory => {}

@@ -37,7 +37,9 @@ fn check(alloc: Global, run: &Run<'_>) -> Result<bool, Fail> {
 }
 
 const APPLY: &[&str] = &["apply"];
+
 const PRIMARY: &[&str] = &["primary"];
+
 const NONE: &[u64] = &[];
 
 fn run<'a>(

@@ -6,7 +6,7 @@ use Rattle.c5_definitions.specs.declared.script.ScriptFault.{ScriptFault}
 use Rattle.c5_definitions.specs.Steps.{◌>>=◌}
 use Rattle.c5_definitions.specs.Words.{Word, bare, quoted}
 use Rattle.c5_definitions.specs.ScriptParts.{ScriptParts}
-use Rattle.c5_definitions.specs.ScriptSoFar.{ScriptSoFar, script_start, is_outside, has_table, is_closed, script_of as parts_of}
+use Rattle.c5_definitions.specs.ScriptSoFar.{ScriptSoFar, script_start, is_outside, has_table, is_closed, parts_of}
 use Rattle.c5_definitions.specs.Lines.{lines_of, behind_lines, words_of}
 use Rattle.c5_definitions.specs.Statements.{FrontLine, goes_on, log_follows, is_log_line, log_line, after_line, after_front_line}
 use Rattle.c5_definitions.specs.Script.{on_line, after_front_numbered, front_from, front_of}

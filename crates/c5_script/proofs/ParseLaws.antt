@@ -5,7 +5,7 @@ use Rattle.c5_definitions.specs.declared.script.ScriptKind.TheVariants as kinds
 use Rattle.c5_definitions.specs.declared.script.ScriptFault.{ScriptFault}
 use Rattle.c5_definitions.specs.Steps.{◌>>=◌}
 use Rattle.c5_definitions.specs.ScriptParts.{ScriptParts}
-use Rattle.c5_definitions.specs.ScriptSoFar.{ScriptSoFar, script_start, is_closed, script_of as parts_of}
+use Rattle.c5_definitions.specs.ScriptSoFar.{ScriptSoFar, script_start, is_closed, parts_of}
 use Rattle.c5_definitions.specs.Lines.{lines_of}
 use Rattle.c5_definitions.specs.Script.{on_line, fault_on, after_numbered, script_from, script_of}
 use Rattle.c5_script.specs.declared.fault.LineError.{LineError}

@@ -1,7 +1,7 @@
 //! A script that is read in part.
 
 ghost use Rattle.std.specs.Prelude.{◌≡◌, Ok, IsTrue, Some, None, if◌then◌else◌};
-ghost use Rattle.c5_definitions.specs.ScriptSoFar.{script_start, script_of, is_closed, is_outside, has_table};
+ghost use Rattle.c5_definitions.specs.ScriptSoFar.{script_start, parts_of, is_closed, is_outside, has_table};
 ghost use Rattle.c5_definitions.specs.Statements.{end_line, known_line, after_line, is_log_line, after_front_line};
 ghost use Rattle.c5_script.specs.Partial.{block_of, so_far, BlockFits};
 ghost use Rattle.c5_script.specs.Words.{words_of};
@@ -164,7 +164,7 @@ impl PartialScript {
     /// The script; `None` exactly where a block is open or no table stands.
     #[tactic(auto, unfolding(c5_definitions::specs::ScriptSoFar::is_closed))]
     pub(crate) fn finish(self) -> Option<Script>
-        ensures { result ≡ (if is_closed self then Some (script_of self) else None) }
+        ensures { result ≡ (if is_closed self then Some (parts_of self) else None) }
     {
         let OpenBlock::Outside = self.block else {
             return None;

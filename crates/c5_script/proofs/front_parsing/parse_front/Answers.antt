@@ -3,7 +3,7 @@ use Rattle.std.proofs.lemmas.Bool.{eqb-true}
 use Rattle.std.proofs.lemmas.List.{nil_from_length}
 use Rattle.std.proofs.lemmas.Result.{err_from_is_err_and}
 use Rattle.c5_definitions.specs.ScriptParts.{ScriptParts}
-use Rattle.c5_definitions.specs.ScriptSoFar.{ScriptSoFar, is_closed, script_of as parts_of}
+use Rattle.c5_definitions.specs.ScriptSoFar.{ScriptSoFar, is_closed, parts_of}
 use Rattle.c5_definitions.specs.Lines.{lines_of, behind_lines}
 use Rattle.c5_definitions.specs.Script.{front_from}
 use Rattle.c5_script.specs.declared.partial.Taken.{Taken}
