@@ -1,12 +1,10 @@
 -- What feeding a decoder from a source comes to.
-use Rattle.std.proofs.Common.{◌≡◌, ◌≤◌, ◌<◌, ◌+◌, ◌++◌, ◌∙◌, ℕ, List, [], length, Option, Some, None, Ok, Err, refl, sym, subst, ap, arith}
+use Rattle.std.proofs.Common.{◌≡◌, ◌≤◌, ◌<◌, ◌+◌, ◌++◌, ◌∙◌, ℕ, List, [], length, Option, Some, None, refl, sym, subst, ap, arith}
 use Rattle.std.specs.Prelude.{IfSome}
 use Rattle.std.specs.Io.KnownBytes.{Consumes, IsAtEnd}
 use Rattle.std.proofs.KnownBytes.{Consumes-trans}
 use Rattle.std.proofs.lemmas.List.{length-append}
 use Rattle.c5_io.specs.Causes.{Rose}
-use Rattle.c5_definitions.specs.Items.{log_of, fault_of}
-use Rattle.c5_definitions.specs.declared.fault.LogFault.{LogFault}
 use Rattle.c5_driver.specs.declared.command.Command.TheVariants.{Apply}
 use Rattle.c5_driver.specs.declared.refusal.Refusal.{Refusal}
 use Rattle.c5_driver.specs.declared.refusal.Refusal.TheVariants as refusals
@@ -41,8 +39,3 @@ stops-refuses refusals.NoMemory f0 f1 f2 a b c fed calm taken why = why ∙ calm
 stops-refuses (refusals.BadScript fault) f0 f1 f2 a b c fed calm taken why = absurd why
 stops-refuses (refusals.BadLog fault) f0 f1 f2 a b c fed calm taken why = absurd why
 stops-refuses (refusals.Limit excess) f0 f1 f2 a b c fed calm taken why = absurd why
-
--- the fault of bytes that are no log
-pub fault-is : (bytes : List ℕ) (fault : LogFault) → log_of bytes ≡ Err fault → fault_of bytes ≡ Some fault
-unfolding fault_of
-fault-is bytes fault e = rw e refl

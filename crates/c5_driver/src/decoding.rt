@@ -39,6 +39,7 @@ fn feed(decoder: &mut Decoder, piece: &[u8]) -> Result<(), Refusal>
     requires { length decoder.old + length piece.now ≤ 88080384 }
     ensures ok { OnOk result (decoder.new ≡ decoder.old ++ piece.now) }
     ensures err { IfErr result (λ refusal. refusal ≡ Refusal.NoMemory) }
+    ensures kept { OnErr result (decoder.new ≡ decoder.old) }
 {
     match decoder.feed(piece) {
         Ok(()) | Err(FeedFault::Log(_)) => Ok(()),
