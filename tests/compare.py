@@ -87,25 +87,43 @@ def script_input(rand):
     return ("\n".join(lines) + rand.choice(("\n", "\n", "", "\n\n"))).encode("latin-1")
 
 
+# Inputs at the limits of their counts: (command, what it is, input).
+def large_inputs():
+    acct = [(b"acct", (1,))]
+    writes = [((0, b"%07d" % number), (number,)) for number in range(262_144)]
+    yield "apply", "262144 writes in one transaction", reference.spelled(acct, [(0, 1, writes)])
+    yield "apply", "65536 transactions without writes", reference.spelled(acct, [(0, number + 1, []) for number in range(65_536)])
+    yield "primary", "a line of 4 million bytes", b"table acct int\ntxn\n" + b"x " * 2_000_000 + b"\nend\n"
+    yield "primary", "a text of 4 million bytes", b"table t text\ntxn\nput t k \"" + b"x" * 4_000_000 + b"\"\nend\n"
+    yield "primary", "262145 writes", b"table acct int\n" + (b"txn\n" + b"del acct a\n" * 256 + b"end\n") * 1024 + b"txn\ndel acct a\nend\n"
+    rows = b"".join(b"txn\n" + b"".join(b"del t %d\n" % (block * 256 + n) for n in range(256)) + b"end\n" for block in range(257))
+    yield "primary", "65792 rows", b"table t int\n" + rows
+
+
+def agrees(command, name, data):
+    ran = subprocess.run([PROGRAM, command], input=data, stdout=subprocess.PIPE, stderr=subprocess.DEVNULL)
+    status, printed = reference.answer(command, data)
+    if (ran.returncode, ran.stdout) == (status, printed):
+        return True
+    print(f"{command} on {name[:2000]}: {ran.returncode} {ran.stdout[:200]!r}, not {status} {printed[:200]!r}")
+    return False
+
+
 def main():
     count = int(sys.argv[1]) if len(sys.argv) > 1 else 400
     rand = random.Random(int(sys.argv[2]) if len(sys.argv) > 2 else 1)
-    passed, failed, kinds = 0, 0, {}
+    results, kinds = [], {}
     for number in range(count):
         command, make = (("apply", log_input), ("primary", script_input))[number % 2]
         data = make(rand)
-        ran = subprocess.run([PROGRAM, command], input=data, stdout=subprocess.PIPE, stderr=subprocess.DEVNULL)
         status, printed = reference.answer(command, data)
         kind = printed.split()[-1].decode() if status in (3, 4) else "ok" if status == 0 else str(status)
         kinds[command, kind] = kinds.get((command, kind), 0) + 1
-        if (ran.returncode, ran.stdout) == (status, printed):
-            passed += 1
-        else:
-            failed += 1
-            print(f"{command} on {data!r}: {ran.returncode} {ran.stdout[:200]!r}, not {status} {printed[:200]!r}")
+        results.append(agrees(command, repr(data), data))
+    results += [agrees(command, name, data) for command, name, data in large_inputs()]
     print("answers:", ", ".join(f"{command} {kind} {n}" for (command, kind), n in sorted(kinds.items())))
-    print(f"{passed} passed, {failed} failed")
-    sys.exit(1 if failed else 0)
+    print(f"{results.count(True)} passed, {results.count(False)} failed")
+    sys.exit(0 if all(results) else 1)
 
 
 if __name__ == "__main__":
