@@ -42,7 +42,7 @@ const PRIMARY: &[&str] = &["primary"];
 
 const NONE: &[u64] = &[];
 
-fn run<'a>(
+fn case<'a>(
     words: &'a [&'a str],
     input: &'a [u8],
     reads: &'a [u64],
@@ -64,12 +64,12 @@ fn run<'a>(
 fn apply_ends_with_each_status(rt: HostRuntime) -> Result<(), Fail> {
     let rows = b"acct a 10\nrows 1\n".as_slice();
     let runs = [
-        run(APPLY, &ONE_PUT, NONE, NONE, Status::Ok, rows),
+        case(APPLY, &ONE_PUT, NONE, NONE, Status::Ok, rows),
         // The second write fails, and then the flush after five writes.
-        run(APPLY, &ONE_PUT, NONE, &[2], Status::WriteFault, b"acct"),
-        run(APPLY, &ONE_PUT, NONE, &[6], Status::WriteFault, rows),
-        run(APPLY, &ONE_PUT, &[1], NONE, Status::ReadFault, b""),
-        run(
+        case(APPLY, &ONE_PUT, NONE, &[2], Status::WriteFault, b"acct"),
+        case(APPLY, &ONE_PUT, NONE, &[6], Status::WriteFault, rows),
+        case(APPLY, &ONE_PUT, &[1], NONE, Status::ReadFault, b""),
+        case(
             APPLY,
             &ONE_PUT[..58],
             NONE,
@@ -77,8 +77,8 @@ fn apply_ends_with_each_status(rt: HostRuntime) -> Result<(), Fail> {
             Status::BadLog,
             b"bad log at 50 cut\n",
         ),
-        run(APPLY, &ONE_PUT[..58], NONE, &[2], Status::BadLog, b"bad "),
-        run(
+        case(APPLY, &ONE_PUT[..58], NONE, &[2], Status::BadLog, b"bad "),
+        case(
             &["frob"],
             &ONE_PUT,
             &[1],
@@ -86,7 +86,7 @@ fn apply_ends_with_each_status(rt: HostRuntime) -> Result<(), Fail> {
             Status::BadWords,
             b"bad words\n",
         ),
-        run(&[], &ONE_PUT, &[1], NONE, Status::BadWords, b"bad words\n"),
+        case(&[], &ONE_PUT, &[1], NONE, Status::BadWords, b"bad words\n"),
     ];
     for (number, run) in runs.iter().enumerate() {
         assert!(rt; check(rt.alloc(), run)?, "run {number}");
@@ -98,10 +98,10 @@ fn apply_ends_with_each_status(rt: HostRuntime) -> Result<(), Fail> {
 fn primary_ends_with_each_status(rt: HostRuntime) -> Result<(), Fail> {
     let unclosed = b"bad script line 4 unclosed\n".as_slice();
     let runs = [
-        run(PRIMARY, SCRIPT, NONE, NONE, Status::Ok, &ONE_PUT),
-        run(PRIMARY, SCRIPT, NONE, &[1], Status::WriteFault, b""),
-        run(PRIMARY, SCRIPT, &[2], NONE, Status::ReadFault, b""),
-        run(
+        case(PRIMARY, SCRIPT, NONE, NONE, Status::Ok, &ONE_PUT),
+        case(PRIMARY, SCRIPT, NONE, &[1], Status::WriteFault, b""),
+        case(PRIMARY, SCRIPT, &[2], NONE, Status::ReadFault, b""),
+        case(
             PRIMARY,
             &SCRIPT[..33],
             NONE,
@@ -109,7 +109,7 @@ fn primary_ends_with_each_status(rt: HostRuntime) -> Result<(), Fail> {
             Status::BadScript,
             unclosed,
         ),
-        run(
+        case(
             &["primary", "apply"],
             SCRIPT,
             &[1],
