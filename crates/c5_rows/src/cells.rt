@@ -1,6 +1,6 @@
 //! Cells, and rows of them.
 
-ghost use Rattle.std.specs.Prelude.{◌≡◌, ◌≤◌, ◌<◌, length, slice_set};
+ghost use Rattle.std.specs.Prelude.{◌≡◌, ◌≤◌, ◌<◌, ◌++◌, ◌∷◌, [], length, slice_set};
 ghost use Rattle.c5_rows.specs.Cells.{type_of, one_to_eight};
 
 use crate::names::TextCell;
@@ -61,6 +61,24 @@ impl Model for Row {
 }
 
 impl Row {
+    /// The row of one cell.
+    pub fn one(cell: Cell) -> Self
+        ensures { result ≡ cell ∷ [] }
+    {
+        let mut cells = [Cell::Int(0); 8];
+        cells[0] = cell;
+        Row { cells, len: 1 }
+    }
+
+    /// Adds a cell at the end.
+    pub fn push(&mut self, cell: Cell)
+        requires { length self.old < 8 }
+        ensures { self.new ≡ self.old ++ cell ∷ [] }
+    {
+        self.cells[self.len as usize] = cell;
+        self.len += 1;
+    }
+
     /// The row of these cells; `None` exactly where there are not 1 to 8.
     pub fn new(cells: &[Cell]) -> Option<Self>
         ensures { result ≡ one_to_eight cells.now }

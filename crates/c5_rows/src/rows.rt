@@ -49,6 +49,24 @@ impl Model for Rows {
 }
 
 ghost use Rattle.c5_rows.specs.State.{after_change, after_writes, rows_of};
+ghost use Rattle.c5_rows.specs.Order.{row_name_cmp};
+ghost use Rattle.std.specs.BTreeMap.{IsOrdered, IsUnchanged};
+
+// Sets a row. One that stands is written over where it lies.
+fn put(rows: &mut BTreeMap<RowName, Row>, name: &RowName, row: &Row) -> Result<(), NoMemory>
+    requires { IsOrdered row_name_cmp rows.old }
+    ensures ordered { IsOrdered row_name_cmp rows.new }
+    ensures ok { OnOk result (map.from_entries {R = row_name_cmp} rows.new.entries ≡ map.insert (map.from_entries rows.old.entries) name.now row.now) }
+    ensures err { OnErr result (IsUnchanged rows.old rows.new) }
+{
+    match rows.get_mut(name) {
+        Some(old) => *old = *row,
+        None => {
+            rows.insert(*name, *row)?;
+        }
+    }
+    Ok(())
+}
 
 impl Rows {
     /// No rows.
@@ -98,19 +116,17 @@ impl Rows {
     }
 
     // Makes one change. A refusal leaves the rows as they were.
-    fn change(&mut self, name: RowName, change: &Change) -> Result<(), NoMemory>
-        ensures ok { OnOk result (self.new ≡ after_change name change.now self.old) }
+    fn change(&mut self, name: &RowName, change: &Change) -> Result<(), NoMemory>
+        ensures ok { OnOk result (self.new ≡ after_change name.now change.now self.old) }
         ensures err { OnErr result (self.new ≡ self.old) }
     {
         match change {
-            Change::Put(row) => {
-                self.rows.insert(name, *row)?;
-            }
+            Change::Put(row) => put(&mut self.rows, name, row),
             Change::Gone => {
-                self.rows.remove(&name);
+                self.rows.remove(name);
+                Ok(())
             }
         }
-        Ok(())
     }
 
     /// Makes the changes of a transaction, by ascending name. After `Applied` the first `writes`
@@ -121,7 +137,7 @@ impl Rows {
         ensures left { IfErr result (λ applied. applied.writes < length txn.now.writes) }
     {
         for (applied, write) in txn.writes.as_slice().iter().enumerate() {
-            match self.change(write.name, &write.change) {
+            match self.change(&write.name, &write.change) {
                 Ok(()) => {}
                 Err(NoMemory) => return Err(Applied { writes: applied }),
             }

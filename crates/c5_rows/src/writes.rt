@@ -1,6 +1,6 @@
 //! Names of rows, writes and transactions.
 
-ghost use Rattle.std.specs.Prelude.{◌≡◌, ◌<◌, ◌≤◌, [], OnOk, OnErr, length, MatchResult};
+ghost use Rattle.std.specs.Prelude.{◌≡◌, ◌<◌, ◌≤◌, [], OnOk, OnErr, IfOk, insert, length, MatchResult};
 ghost use Rattle.std.specs.Option.{option_copied};
 
 use crate::cells::Row;
@@ -75,6 +75,20 @@ fn place_of(writes: &[Write], name: &RowName) -> Result<usize, usize>
     writes.binary_search_by_key(name, |write| write.name)
 }
 
+// Adds an item before the one that stands here, or at the end.
+fn add_at<T: Drop>(items: &mut Vec<T>, at: usize, item: T) -> Result<(), NoMemory>
+    requires { at ≤ length items.old.items }
+    ensures ok { OnOk result (items.new.items ≡ insert items.old.items at item) }
+    ensures err { OnErr result (items.new.items ≡ items.old.items) }
+{
+    if at == items.len() {
+        items.push(item)?;
+    } else {
+        items.insert(at, item)?;
+    }
+    Ok(())
+}
+
 // Puts a write in its place.
 fn put(writes: &mut Vec<Write>, write: Write) -> Result<(), NoMemory>
     requires { IsAscending writes.old.items }
@@ -84,7 +98,7 @@ fn put(writes: &mut Vec<Write>, write: Write) -> Result<(), NoMemory>
 {
     match place_of(writes, &write.name) {
         Ok(at) => writes[at] = write,
-        Err(at) => writes.insert(at, write)?,
+        Err(at) => add_at(writes, at, write)?,
     }
     Ok(())
 }
@@ -107,6 +121,15 @@ impl Writes {
         Writes {
             writes: Vec::new(alloc),
         }
+    }
+
+    /// No writes, and the memory for `count` of them.
+    pub fn with_capacity(alloc: Global, count: usize) -> Result<Self, NoMemory>
+        ensures { IfOk result (λ writes. writes ≡ []) }
+    {
+        Ok(Writes {
+            writes: Vec::with_capacity(alloc, count)?,
+        })
     }
 
     /// Replaces the write of that name, or adds it in its place. After `NoMemory` nothing has changed.

@@ -8,10 +8,10 @@ found c =
     let e = c.deref.ensures.value in
     rw (← e) (put_write-found c.args.write c.deref.result.now c.in-Ok.at (rw e c.requires) c.in-Ok.ensures.bound c.in-Ok.ensures.place)
 
-inserted : (c : goal.In_ok-insert-in-Err) → c.insert.new.self.items ≡ put_write c.args.write c.args.writes.now.items
+inserted : (c : goal.In_ok-add_at-in-Err) → c.add_at.new.items.items ≡ put_write c.args.write c.args.writes.now.items
 inserted c =
     let e = c.deref.ensures.value in
-    c.in_ok-insert-in-Err.ensures.items
+    c.in_ok-add_at-in-Err.ensures.ok
     ∙ rw (← e) (put_write-gap c.args.write c.deref.result.now c.in-Err.at c.in-Err.ensures.bound c.in-Err.ensures.place.0 c.in-Err.ensures.place.1)
 
 pub returns-in-Ok-clause-ok : goal.returns-in-Ok-clause-ok
@@ -20,8 +20,8 @@ returns-in-Ok-clause-ok c = found c
 pub returns-in-Ok-clause-ascending : goal.returns-in-Ok-clause-ascending
 returns-in-Ok-clause-ascending c = rw (found c) (IsAscending-put c.args.write c.args.writes.now.items c.requires)
 
-pub returns-in_ok-insert-in-Err-clause-ok : goal.returns-in_ok-insert-in-Err-clause-ok
-returns-in_ok-insert-in-Err-clause-ok c = inserted c
+pub returns-in_ok-add_at-in-Err-clause-ok : goal.returns-in_ok-add_at-in-Err-clause-ok
+returns-in_ok-add_at-in-Err-clause-ok c = inserted c
 
-pub returns-in_ok-insert-in-Err-clause-ascending : goal.returns-in_ok-insert-in-Err-clause-ascending
-returns-in_ok-insert-in-Err-clause-ascending c = rw (inserted c) (IsAscending-put c.args.write c.args.writes.now.items c.requires)
+pub returns-in_ok-add_at-in-Err-clause-ascending : goal.returns-in_ok-add_at-in-Err-clause-ascending
+returns-in_ok-add_at-in-Err-clause-ascending c = rw (inserted c) (IsAscending-put c.args.write c.args.writes.now.items c.requires)
