@@ -56,8 +56,9 @@ module _ (at x y : ℕ) (xs ys : List ℕ) (p : at + 8 ≤ length xs) (q : at + 
       ∙ spelled 8 0 0 (drop at xs) (drop at ys) (omega (arith, length-drop at xs)) (omega (arith, length-drop at ys)) (bytes_from xs g) (bytes_from ys h)
       ∙ (λ i. ordering_then (nat_cmp (sym is_x i) (sym is_y i)) (slice_cmp nat_cmp (drop-drop 8 at xs i) (drop-drop 8 at ys i)))
 
-  pub words_differ : (x ≡ y → ⊥) → nat_cmp x y ≡ slice_cmp nat_cmp xs ys
-  words_differ n = sym (by_word ∙ decided x y (nat_cmp x y) _ (ranks x y) n)
+  pub words_differ : (x ≡ y → ⊥) → (o : Ordering) → nat_cmp x y ≡ ordering_then (slice_cmp nat_cmp xs ys) o
+  words_differ n o =
+      sym (ap (λ r. ordering_then r o) (by_word ∙ decided x y (nat_cmp x y) (slice_cmp nat_cmp (drop (at + 8) xs) (drop (at + 8) ys)) (ranks x y) n) ∙ decided x y (nat_cmp x y) o (ranks x y) n)
 
   pub words_same : x ≡ y → slice_cmp nat_cmp xs ys ≡ slice_cmp nat_cmp (drop (at + 8) xs) (drop (at + 8) ys)
   words_same e = by_word ∙ ap (λ r. ordering_then r (slice_cmp nat_cmp (drop (at + 8) xs) (drop (at + 8) ys))) (sym (nat_cmp_is x y Equal e))

@@ -2,7 +2,7 @@
 
 ghost use Rattle.std.specs.Prelude.{◌≡◌, ◌≤◌, ◌+◌, ℕ, List, length, take, drop};
 ghost use Rattle.std.specs.Cmp.Lexicographic.{slice_cmp};
-ghost use Rattle.std.specs.Ordering.{nat_cmp};
+ghost use Rattle.std.specs.Ordering.{nat_cmp, ordering_then};
 ghost use Rattle.std.specs.Slice.Scan.{big_endian};
 
 use std::cmp::Ordering;
@@ -26,11 +26,12 @@ fn word(bytes: &[u8], at: usize) -> u64
     ])
 }
 
-// Words of eight bytes are ordered as their bytes are, so the first word that differs decides.
+// The order of the arrays, and that of the lengths where the arrays are the same. Words of eight
+// bytes are ordered as their bytes are, so the first word that differs decides.
 #[inline(always)]
-fn order(a: &[u8], b: &[u8]) -> Ordering
+fn order(a: &[u8], b: &[u8], a_len: u8, b_len: u8) -> Ordering
     requires { length a.now ≡ length b.now }
-    ensures { result ≡ slice_cmp nat_cmp a.now b.now }
+    ensures { result ≡ ordering_then (slice_cmp nat_cmp a.now b.now) (nat_cmp a_len b_len) }
 {
     let words = a.len() / 8;
     for place in 0..words {
@@ -39,7 +40,7 @@ fn order(a: &[u8], b: &[u8]) -> Ordering
             return x.cmp(&y);
         }
     }
-    a[8 * words..].cmp(&b[8 * words..])
+    a[8 * words..].cmp(&b[8 * words..]).then(a_len.cmp(&b_len))
 }
 
 /// At most `N` bytes, held in the value itself. `N` is at most 255.
@@ -125,7 +126,7 @@ impl<const N: usize> Ord for Short<N> {
     // The bytes past the length are 0, so the lengths count only where the arrays are the same.
     #[inline]
     fn cmp(&self, other: &Self) -> Ordering {
-        order(&self.bytes, &other.bytes).then(self.len.cmp(&other.len))
+        order(&self.bytes, &other.bytes, self.len, other.len)
     }
 }
 

@@ -11,7 +11,7 @@ returns-then-x-y c =
     let same = c.requires in
     c.cmp.ensures
     ∙ words_differ (8 * c.loop-place.place) c.word-x.result c.word-y.result a b (omega (arith, c.loop-place-test.true)) (omega (arith, c.loop-place-test.true, same)) c.type_inv.a c.type_inv.b
-    c.word-x.ensures c.word-y.ensures c.loop-place.invariant c.if-x-y.true
+    c.word-x.ensures c.word-y.ensures c.loop-place.invariant c.if-x-y.true (nat_cmp c.args.a_len c.args.b_len)
 
 pub loop-place-preserved : goal.loop-place-preserved
 loop-place-preserved c =

@@ -6,4 +6,4 @@ returns g c =
     let a = c.self in
     let b = c.other in
     let over = by_arrays g.row.N a.inside.len b.inside.len a.inside.bytes b.inside.bytes a.invariant.full b.invariant.full a.invariant.fits b.invariant.fits a.invariant.padding b.invariant.padding in
-    rw (c.then.ensures, c.order.ensures, c.cmp.ensures, ← a.view_is, ← b.view_is) over
+    rw (c.order.ensures, ← a.view_is, ← b.view_is) over
