@@ -7,7 +7,7 @@ ghost use Rattle.c5_script.specs.Words.{word_of, words_of};
 use crate::places::{cell, column_type, key};
 use crate::word::Word;
 use c5_definitions::{Keys, ScriptKind};
-use c5_rows::{Cell, CellType, Columns, Row};
+use c5_rows::{CellType, Columns, Row};
 
 /// The types of the columns of a table.
 pub(crate) fn column_types(words: &[Word]) -> Result<Columns, ScriptKind>
@@ -49,13 +49,11 @@ pub(crate) fn row(columns: &[CellType], words: &[Word]) -> Result<Row, ScriptKin
     if words.len() != columns.len() {
         return Err(ScriptKind::Count);
     }
-    let mut cells = [Cell::Int(0); 8];
-    for (column, word) in words.iter().enumerate() {
-        let found = cell(columns[column], *word)?;
-        cells[column] = found;
+    let first = cell(columns[0], words[0])?;
+    let mut row = Row::one(first);
+    for column in 1..words.len() {
+        let next = cell(columns[column], words[column])?;
+        row.push(next);
     }
-    match Row::new(&cells[..words.len()]) {
-        Some(row) => Ok(row),
-        None => unreachable!(),
-    }
+    Ok(row)
 }
