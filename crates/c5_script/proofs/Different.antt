@@ -1,5 +1,5 @@
 -- How many names stand in a list that was sorted and whose repeated names were dropped.
-use Rattle.std.proofs.Common.{◌≡◌, Bool, true, List, [], length, subst, sym, refl}
+use Rattle.std.proofs.Common.{◌≡◌, ◌≤◌, ℕ, Bool, true, List, [], length, subst, sym, refl, arith}
 use Rattle.std.specs.Bool.{Decides}
 use Rattle.std.specs.Cmp.{eq_by_cmp_equiv, Equal-is}
 use Rattle.std.specs.List.{Contains, IsDistinct, dedup}
@@ -12,9 +12,11 @@ use Rattle.std.proofs.lemmas.List.Filters.{dedup_is}
 use Rattle.std.proofs.lemmas.List.Kept.{Contains-dedup, Contains-from_dedup, IsStrictlySortedBy-dedup}
 use Rattle.std.proofs.lemmas.List.Sorted.{Contains-permutation, IsPermutation-sym}
 use Rattle.std.proofs.lemmas.Map.Keys.{IsDistinct-from_sorted}
-use Rattle.std.proofs.lemmas.Map.Made.{is_member-Decides, length-from_keys}
+use Rattle.std.proofs.lemmas.Map.Made.{is_member-Decides, length-from_keys, distinct_count-le}
 use Rattle.c5_rows.specs.declared.writes.RowName.{RowName}
 use Rattle.c5_rows.specs.Order.{row_name_cmp, row_name_cmp_total, row_name_cmp_exact}
+use Rattle.c5_definitions.specs.declared.script.Statement.{Statement}
+use Rattle.c5_definitions.specs.Limits.{written_names, write_statements, AreWithinLimits}
 
 abbrev same_name : RowName → RowName → Bool
 same_name = eq_by_cmp row_name_cmp
@@ -42,3 +44,13 @@ pub count_of_deduped : (test : RowName → RowName → Bool) → ((x y : RowName
 count_of_deduped test ties xs ys zs moved sorted filtered =
     let alike : test ≡ same_name = λ i x y. ties x y i in
     of_deduped xs ys zs moved sorted (subst (λ (t : RowName → RowName → Bool). IsFiltered (DiffersFromLast t) [] ys zs) alike filtered)
+
+-- few statements write no more rows than they are
+pub within-few : (bodies : List (List Statement)) (count : ℕ) → count ≡ write_statements bodies → length bodies ≤ 65536 → count ≤ 65536 → AreWithinLimits bodies
+within-few bodies count is transactions few =
+    let rows = distinct_count-le same_name (written_names bodies) in
+    record {
+      transactions = transactions;
+      writes = omega (arith, is);
+      rows = omega (arith, is, rows);
+    }

@@ -1,6 +1,6 @@
 //! Bodies of transactions.
 
-ghost use Rattle.std.specs.Prelude.{◌≡◌, ◌<◌, ◌++◌, ◌∷◌, [], length, OnOk, OnErr};
+ghost use Rattle.std.specs.Prelude.{◌≡◌, ◌<◌, ◌++◌, ◌∷◌, [], length, IfOk, OnOk, OnErr};
 ghost use Rattle.std.specs.List.{AllByRecursion};
 ghost use Rattle.c5_rows.specs.Bytes.{IsKey};
 ghost use Rattle.c5_definitions.specs.Lawful.{IsLawfulCell};
@@ -85,6 +85,14 @@ impl Body {
         Body {
             statements: Vec::new(alloc),
         }
+    }
+
+    /// No statements, and room for so many.
+    pub(crate) fn with_capacity(alloc: Global, count: usize) -> Result<Self, NoMemory>
+        ensures { IfOk result (λ body. body ≡ []) }
+    {
+        let statements = Vec::with_capacity(alloc, count)?;
+        Ok(Body { statements })
     }
 
     /// Adds a statement at the end. After `NoMemory` nothing has changed.

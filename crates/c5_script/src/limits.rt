@@ -123,6 +123,10 @@ impl Script {
         if count > MOST_WRITES {
             return Err(OverFault::Writes);
         }
+        // There are no more rows than writes.
+        if count <= MOST_ROWS {
+            return Ok(());
+        }
         match names_in(alloc, bodies, count) {
             Ok(names) => {
                 if different(names) > MOST_ROWS {
