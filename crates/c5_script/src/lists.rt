@@ -2,6 +2,7 @@
 
 ghost use Rattle.std.specs.Prelude.{◌≡◌, ◌≤◌, ◌<◌, ◌∷◌, length};
 ghost use Rattle.c5_definitions.specs.Places.{type_in, key_in, each_in, row_in};
+ghost use Rattle.c5_script.specs.Taking.{Gives};
 ghost use Rattle.c5_script.specs.Words.{word_of, words_of};
 
 use crate::places::{cell, column_type, key};
@@ -40,20 +41,25 @@ pub(crate) fn keys(first: Word, others: &[Word]) -> Result<Keys, ScriptKind>
     Ok(keys)
 }
 
-/// The cells of a row, one for each column.
-pub(crate) fn row(columns: &[CellType], words: &[Word]) -> Result<Row, ScriptKind>
+/// Reads the cells of a row, one for each column, to where the row lies: a row that is returned is copied.
+/// What `row` is after an `Err` isn't said.
+pub(crate) fn read_row(
+    row: &mut Row,
+    columns: &[CellType],
+    words: &[Word],
+) -> Result<(), ScriptKind>
     requires some { 1 ≤ length words.now }
     requires at_most_eight { length columns.now ≤ 8 }
-    ensures { result ≡ row_in columns.now (words_of words.now) }
+    ensures { Gives (λ _. row.new) result (row_in columns.now (words_of words.now)) }
 {
     if words.len() != columns.len() {
         return Err(ScriptKind::Count);
     }
     let first = cell(columns[0], words[0])?;
-    let mut row = Row::one(first);
+    *row = Row::one(first);
     for column in 1..words.len() {
         let next = cell(columns[column], words[column])?;
         row.push(next);
     }
-    Ok(row)
+    Ok(())
 }

@@ -12,11 +12,11 @@ ghost use Rattle.c5_script.specs.Words.{word_of, words_of};
 
 use crate::bodies::Body;
 use crate::fault::LineError;
-use crate::lists::row;
+use crate::lists::read_row;
 use crate::places::{columns, int_column, key, number, rel, row_name};
 use crate::word::Word;
 use c5_definitions::{ScriptKind, Statement};
-use c5_rows::{RowName, TableDef};
+use c5_rows::{Cell, Row, RowName, TableDef};
 
 /// How many statements a transaction has at most.
 const MOST_STATEMENTS: usize = 256;
@@ -37,7 +37,8 @@ fn put_of(
     ensures err { OnErr result (body.new ≡ body.old) }
 {
     let name = row_name(tables, table, key)?;
-    let row = row(columns(tables, name.table), cells)?;
+    let mut row = Row::one(Cell::Int(0));
+    read_row(&mut row, columns(tables, name.table), cells)?;
     body.push(Statement::Put { name, row })?;
     Ok(())
 }
