@@ -1,18 +1,18 @@
 -- How many names stand in a list that was sorted and whose repeated names were dropped.
-use Rattle.std.proofs.Common.{◌≡◌, ◌∙◌, ◌≤◌, ◌<◌, ◌||◌, ℕ, zero, suc, Bool, true, false, List, [], ◌∷◌, ◌++◌, length, get_or, subst, sym, ap, refl, arith}
+use Rattle.std.proofs.Common.{◌≡◌, ◌∙◌, ◌≤◌, ◌<◌, ◌||◌, ℕ, zero, suc, Bool, true, false, List, [], ◌∷◌, ◌++◌, length, get_or, cond, subst, sym, ap, refl, arith}
 use Rattle.std.specs.Bool.{Decides}
 use Rattle.std.specs.Cmp.{eq_by_cmp_equiv, Equal-is}
-use Rattle.std.specs.List.{Contains, IsDistinct, dedup}
+use Rattle.std.specs.List.{Contains, IsDistinct, AllByRecursion, dedup}
 use Rattle.std.specs.List.Retain.{IsFiltered, DiffersFromLast}
 use Rattle.std.specs.List.Sorted.{IsPermutation, IsSorted, IsStrictlySortedBy}
 use Rattle.std.specs.Ordering.{eq_by_cmp}
-use Rattle.std.specs.Set.{distinct_count, is_member}
+use Rattle.std.specs.Set.{distinct_count, is_member, unique_keys}
 use Rattle.std.proofs.lemmas.Bool.Decides.{same_from_decides, Decides-like}
 use Rattle.std.proofs.lemmas.List.Filters.{dedup_is}
 use Rattle.std.proofs.lemmas.List.Kept.{Contains-dedup, Contains-from_dedup, IsStrictlySortedBy-dedup}
 use Rattle.std.proofs.lemmas.List.Sorted.{Contains-permutation, IsPermutation-sym}
 use Rattle.std.proofs.lemmas.Map.Keys.{IsDistinct-from_sorted}
-use Rattle.std.proofs.lemmas.Map.Made.{is_member-Decides, length-from_keys, distinct_count-le}
+use Rattle.std.proofs.lemmas.Map.Made.{is_member-Decides, length-from_keys, length-le_from_is_member, distinct_count-le}
 use Rattle.c5_rows.specs.declared.writes.RowName.{RowName}
 use Rattle.c5_rows.specs.Order.{row_name_cmp, row_name_cmp_total, row_name_cmp_exact}
 use Rattle.c5_definitions.specs.declared.script.Statement.{Statement}
@@ -78,6 +78,59 @@ is_row-append (x ∷ xs) ys q = ap (λ (m : Bool). same_name q x || m) (is_row-a
 
 pub is_row-pushed : (names : List RowName) (name q : RowName) → is_row (names ++ name ∷ []) q ≡ (is_row names q || same_name q name)
 is_row-pushed names name q = is_row-append names (name ∷ []) q ∙ ap (λ (m : Bool). is_row names q || m) (or_false (same_name q name))
+
+-- ---- there are no more rows than names
+
+neither : (a b : Bool) → (a || b) ≡ false → (a ≡ false) × (b ≡ false)
+neither true b e = absurd cc
+neither false b e = (refl, e)
+
+or_right : (a b : Bool) → b ≡ true → (a || b) ≡ true
+or_right true b e = refl
+or_right false b e = e
+
+apart : (x : RowName) (xs : List RowName) → is_row xs x ≡ false → AllByRecursion (λ y. same_name x y ≡ false) (unique_keys same_name xs)
+apart x [] m = tt
+apart x (y ∷ ys) m = by (is_row ys y) (neither (same_name x y) (is_row ys x) m) (apart x ys (neither (same_name x y) (is_row ys x) m).1)
+  where
+    by : (b : Bool) → (same_name x y ≡ false) × (is_row ys x ≡ false) → AllByRecursion (λ y. same_name x y ≡ false) (unique_keys same_name ys) → AllByRecursion (λ y. same_name x y ≡ false) (cond b (unique_keys same_name ys) (y ∷ unique_keys same_name ys))
+    by true n r = r
+    by false n r = (n.0, r)
+
+unique-distinct : (xs : List RowName) → IsDistinct same_name (unique_keys same_name xs)
+unfolding IsDistinct
+unique-distinct [] = tt
+unique-distinct (x ∷ xs) = by (is_row xs x) refl (unique-distinct xs)
+  where
+    by : (b : Bool) → is_row xs x ≡ b → IsDistinct same_name (unique_keys same_name xs) → IsDistinct same_name (cond b (unique_keys same_name xs) (x ∷ unique_keys same_name xs))
+    by true m r = r
+    by false m r = (apart x xs m, r)
+
+unique-held : (xs : List RowName) (q : RowName) → is_row (unique_keys same_name xs) q ≡ true → is_row xs q ≡ true
+unique-held [] q m = m
+unique-held (x ∷ xs) q m = by (is_row xs x) m (unique-held xs q)
+  where
+    by : (b : Bool) → is_row (cond b (unique_keys same_name xs) (x ∷ unique_keys same_name xs)) q ≡ true → (is_row (unique_keys same_name xs) q ≡ true → is_row xs q ≡ true) → (same_name q x || is_row xs q) ≡ true
+    by true m r = or_right (same_name q x) (is_row xs q) (r m)
+    by false m r = later (same_name q x) m
+      where
+        later : (c : Bool) → (c || is_row (unique_keys same_name xs) q) ≡ true → (c || is_row xs q) ≡ true
+        later true m = refl
+        later false m = r m
+
+pub rows-few : (names all : List RowName) → ((q : RowName) → is_row names q ≡ is_row all q) → distinct_count same_name all ≤ length names
+rows-few names all same = length-le_from_is_member (eq_by_cmp_equiv row_name_cmp_total) (unique_keys same_name all) names (unique-distinct all) (λ q m. same q ∙ unique-held all q m)
+
+-- the names that were gathered are few
+pub within-names : (bodies : List (List Statement)) (count : ℕ) (names : List RowName) → count ≡ write_statements bodies → length bodies ≤ 65536 → count ≤ 262144 → length names ≤ 65536
+    → ((q : RowName) → is_row names q ≡ is_row (written_names bodies) q) → AreWithinLimits bodies
+within-names bodies count names is transactions writes few same =
+    let rows = rows-few names (written_names bodies) same in
+    record {
+      transactions = transactions;
+      writes = omega (arith, is);
+      rows = omega (arith, rows);
+    }
 
 -- few statements write no more rows than they are
 pub within-few : (bodies : List (List Statement)) (count : ℕ) → count ≡ write_statements bodies → length bodies ≤ 65536 → count ≤ 65536 → AreWithinLimits bodies

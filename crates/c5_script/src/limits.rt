@@ -77,11 +77,11 @@ fn writes_in(bodies: &[Body]) -> usize
 }
 
 // How many places are kept of names that were met.
-const SLOTS: usize = 1024;
+const SLOTS: usize = 131_072;
 
 // Where the place of the name is kept.
 fn slot_of(name: &RowName) -> usize
-    ensures { result < 1024 }
+    ensures { result < 131072 }
 {
     let mut slot = name.table as usize;
     for byte in name.key.bytes() {
@@ -97,13 +97,11 @@ fn is_same(a: &RowName, b: &RowName) -> bool
 }
 
 // Adds the name where it isn't held, and maybe where it is: `places` has places of some names that are held.
-// A row that is written often then stands few times in what is sorted.
-fn push_name(
-    names: &mut Vec<RowName>,
-    places: &mut [usize; 1024],
-    name: RowName,
-) -> Result<(), NoMemory>
-    ensures { OnOk result ((q : RowName) → is_row names.new.items q ≡ (is_row names.old.items q || eq_by_cmp row_name_cmp q name)) }
+// A row that is written often then stands few times among the names.
+fn push_name(names: &mut Vec<RowName>, places: &mut [usize], name: RowName) -> Result<(), NoMemory>
+    requires { length places.old ≡ 131072 }
+    ensures same_length { length places.new ≡ 131072 }
+    ensures names { OnOk result ((q : RowName) → is_row names.new.items q ≡ (is_row names.old.items q || eq_by_cmp row_name_cmp q name)) }
 {
     let slot = slot_of(&name);
     let place = places[slot];
@@ -118,10 +116,12 @@ fn push_name(
 // Adds the names of the rows that the statements write.
 fn push_names(
     names: &mut Vec<RowName>,
-    places: &mut [usize; 1024],
+    places: &mut [usize],
     statements: &[Statement],
 ) -> Result<(), NoMemory>
-    ensures { OnOk result ((q : RowName) → is_row names.new.items q ≡ (is_row names.old.items q || is_row (filter_map written_name statements.now) q)) }
+    requires { length places.old ≡ 131072 }
+    ensures same_length { length places.new ≡ 131072 }
+    ensures names { OnOk result ((q : RowName) → is_row names.new.items q ≡ (is_row names.old.items q || is_row (filter_map written_name statements.now) q)) }
 {
     for statement in statements {
         if let Some(name) = written_by(statement) {
@@ -131,15 +131,28 @@ fn push_names(
     Ok(())
 }
 
+// Adds the names of the rows that the bodies write.
+fn push_all_names(
+    names: &mut Vec<RowName>,
+    places: &mut [usize],
+    bodies: &[Body],
+) -> Result<(), NoMemory>
+    requires { length places.old ≡ 131072 }
+    ensures { OnOk result ((q : RowName) → is_row names.new.items q ≡ (is_row names.old.items q || is_row (written_names bodies.now) q)) }
+{
+    for body in bodies {
+        push_names(names, places, body.statements())?;
+    }
+    Ok(())
+}
+
 // The names of the rows that the bodies write with `count` statements.
 fn names_in(alloc: Global, bodies: &[Body], count: usize) -> Result<Vec<RowName>, NoMemory>
     ensures { IfOk result (λ names. (q : RowName) → is_row names.items q ≡ is_row (written_names bodies.now) q) }
 {
     let mut names = Vec::with_capacity(alloc, count)?;
-    let mut places = [0; SLOTS];
-    for body in bodies {
-        push_names(&mut names, &mut places, body.statements())?;
-    }
+    let mut places = vec![in alloc; 0; SLOTS]?;
+    push_all_names(&mut names, &mut places, bodies)?;
     Ok(names)
 }
 
@@ -175,6 +188,10 @@ impl Script {
         }
         match names_in(alloc, bodies, count) {
             Ok(names) => {
+                // There are no more rows than names.
+                if names.len() <= MOST_ROWS {
+                    return Ok(());
+                }
                 if different(names) > MOST_ROWS {
                     return Err(OverFault::Rows);
                 }
