@@ -24,6 +24,10 @@ one_more : {A : Type 0} (front : List A) (x : A) (read : Result (List A) ScriptK
 one_more front x (Ok items) = ap (λ (all : List _). Ok all) (sym (append_assoc front (x ∷ []) items))
 one_more front x (Err kind) = refl
 
+pub with_front-none : {A : Type 0} (read : Result (List A) ScriptKind) → with_front [] read ≡ read
+with_front-none (Ok items) = refl
+with_front-none (Err kind) = refl
+
 pub rest-of : {A : Type 0} (xs : List A) (i : ℕ) (d : A) → i < length xs → drop i xs ≡ get_or xs i d ∷ drop (i + 1) xs
 rest-of xs i d lt =
     let e : suc i ≡ i + 1 = omega arith in

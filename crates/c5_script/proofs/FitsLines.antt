@@ -1,6 +1,6 @@
 -- What a line names is there: the statement or the question that was read fits the tables.
-use Rattle.std.proofs.Common.{◌≡◌, ◌∙◌, ◌<◌, ◌+◌, ◌-◌, ◌⊎◌, ℕ, zero, suc, Bool, true, false, cond, List, [], ◌∷◌, length, map, Option, Some, None, Result, Ok, Err, refl, sym, ap, subst, inl, inr, arith}
-use Rattle.std.specs.Prelude.{slice_get, ◌==◌, IfOk}
+use Rattle.std.proofs.Common.{◌≡◌, ◌∙◌, ◌<◌, ◌+◌, ◌-◌, ◌⊎◌, ℕ, zero, suc, Bool, true, false, cond, List, [], ◌∷◌, ◌++◌, length, map, Option, Some, None, Result, Ok, Err, refl, sym, ap, subst, inl, inr, arith}
+use Rattle.std.specs.Prelude.{slice_get, ◌==◌, IfOk, OnErr}
 use Rattle.std.specs.Str.{bytes_eq}
 use Rattle.std.proofs.lemmas.Bool.{eqb-true}
 use Rattle.c5_rows.specs.Cells.{type_of}
@@ -20,10 +20,15 @@ use Rattle.c5_definitions.specs.declared.script.ReadLine.{ReadLine}
 use Rattle.c5_definitions.specs.declared.script.ReadLine.TheVariants.{OneRow, SumOf}
 use Rattle.c5_definitions.specs.Steps.{◌>>=◌, or_cause}
 use Rattle.c5_definitions.specs.Words.{Word, bare, quoted}
-use Rattle.c5_definitions.specs.FitsScript.{HasRow, HasIntColumn, StatementFits, ReadLineFits}
+use Rattle.c5_definitions.specs.FitsScript.{HasRow, HasIntColumn, StatementFits, ReadLineFits, BodyFits}
+use Rattle.c5_definitions.specs.ScriptSoFar.{in_txn}
 use Rattle.c5_definitions.specs.Numerals.{is_digit, number_of}
 use Rattle.c5_definitions.specs.Places.{found_or, table_in, key_in, row_name_in, number_in, rel_in, cell_in, cells_in, row_in, columns_of, of_whole_numbers, int_column_of, column_in, each_in}
 use Rattle.c5_definitions.specs.Statements.{Form, put, del, need, add, copy, put_of, put_words, del_words, need_words, add_words, copy_words, statement_words, row_words, sum_words}
+use Rattle.c5_script.specs.declared.fault.LineError.{LineError}
+use Rattle.c5_script.specs.Partial.{with_statement}
+use Rattle.c5_script.specs.Taking.{StepsTo}
+use Rattle.c5_script.proofs.ScriptLemmas.{AllByRecursion-push}
 
 -- ---- steps that did not fail
 
@@ -205,6 +210,15 @@ words-fit need = need-fits
 words-fit add = add-fits
 words-fit copy = copy-fits
 
+-- so a body to which the statement of a line was added fits as before
+pub added-fits : {X : Type 0} (form : Form) (tables : List TableDef) (words : List Word) (body after : List Statement) (r : Result X LineError)
+    → StepsTo (λ (_ : X). in_txn after) r (with_statement body (statement_words form tables words)) → OnErr r (after ≡ body) → BodyFits tables body → BodyFits tables after
+added-fits form tables words body after (Ok x) step same fits =
+    let read = bind_ok (statement_words form tables words) (λ (new : Statement). Ok (in_txn (body ++ new ∷ []))) (in_txn after) step in
+    let all : body ++ read.0 ∷ [] ≡ after = let e = read.2 in cc in
+    subst (BodyFits tables) all (AllByRecursion-push (StatementFits tables) body read.0 fits (words-fit form tables words read.0 read.1))
+added-fits form tables words body after (Err error) step same fits = subst (BodyFits tables) (sym same) fits
+
 -- ---- questions
 
 row-fits : (tables : List TableDef) (words : List Word) (line : ReadLine) → row_words tables words ≡ Ok line → ReadLineFits tables line
@@ -232,9 +246,6 @@ sum-fits tables (t ∷ col ∷ key ∷ keys) line e =
 if_ok : {A : Type 0} (r read : Result A ScriptKind) (P : A → Type 0) → r ≡ read → ((x : A) → read ≡ Ok x → P x) → IfOk r P
 if_ok (Ok x) read P e f = f x (sym e)
 if_ok (Err kind) read P e f = tt
-
-pub returned-statement-fits : (form : Form) (tables : List TableDef) (words : List Word) (r : Result Statement ScriptKind) → r ≡ statement_words form tables words → IfOk r (StatementFits tables)
-returned-statement-fits form tables words r e = if_ok r (statement_words form tables words) (StatementFits tables) e (words-fit form tables words)
 
 pub returned-row-fits : (tables : List TableDef) (words : List Word) (r : Result ReadLine ScriptKind) → r ≡ row_words tables words → IfOk r (ReadLineFits tables)
 returned-row-fits tables words r e = if_ok r (row_words tables words) (ReadLineFits tables) e (row-fits tables words)

@@ -1,7 +1,9 @@
 -- The first line of bytes.
-use Rattle.std.proofs.Common.{◌≡◌, ◌+◌, ◌<◌, ◌≤◌, ℕ, Bool, eqb, List, [], ◌∷◌, length, take, drop, Some, None, refl, arith}
+use Rattle.std.proofs.Common.{◌≡◌, ◌+◌, ◌<◌, ◌≤◌, ℕ, Bool, true, false, eqb, List, [], ◌∷◌, length, get_or, take, drop, Option, Some, None, refl, arith}
 use Rattle.std.specs.List.{position, position_or_len}
 use Rattle.std.proofs.lemmas.Grind.{common_steps}
+use Rattle.std.proofs.lemmas.List.Sums.{position_or_len_is}
+use Rattle.memchr.specs.Find.{IsFirstByte, is_byte}
 use Rattle.c5_definitions.specs.Lines.{lines_of, behind_lines}
 
 abbrev pub is_end : ℕ → Bool
@@ -30,6 +32,21 @@ behind-no_end : (bytes : List ℕ) → length bytes ≤ position_or_len is_end b
 unfolding behind_lines
 behind-no_end [] h = refl
 behind-no_end (byte ∷ bytes) h = grind (arith, common_steps, behind-no_end bytes)
+
+-- ---- the first place where a line end stands is the one that a search for it gives
+
+not_true : (b : Bool) → ¬ (b ≡ true) → b ≡ false
+not_true true never = absurd (never refl)
+not_true false never = refl
+
+pub first-is_position : (bytes : List ℕ) (found : Option ℕ) → IsFirstByte (is_byte 10) bytes found → found ≡ position is_end bytes
+first-is_position bytes None nowhere =
+    let none = position_or_len_is is_end bytes (length bytes) 0 (omega arith) (λ k lt. not_true (is_end (get_or bytes k 0)) (nowhere k (omega arith) lt)) (λ lt. absurd (omega arith)) in
+    grind (arith, common_steps)
+first-is_position bytes (Some end) first =
+    let at = position_or_len_is is_end bytes end 0 (omega (arith, first.0.high)) (λ k lt. not_true (is_end (get_or bytes k 0)) (first.0.before k (omega arith) lt)) (λ lt. first.1) in
+    let lt = first.0.high in
+    grind (arith, common_steps)
 
 -- ---- by the place that a search for a line end gives
 

@@ -5,3 +5,4 @@ pub mod Partial
 pub mod Front
 pub mod Parsing
 pub mod Forms
+pub mod Rows

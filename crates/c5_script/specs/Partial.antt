@@ -1,8 +1,9 @@
 -- A script that is read in part, as it is held.
-use Rattle.std.specs.Prelude.{◌≤◌, ◌<◌, ℕ, List, [], ◌++◌, length, Option, Some, None, Result, Ok}
+use Rattle.std.specs.Prelude.{◌≤◌, ◌<◌, ℕ, List, [], ◌∷◌, ◌++◌, length, Option, Some, None, Result, Ok}
 use Rattle.c5_definitions.specs.declared.script.ReadLine.{ReadLine}
 use Rattle.c5_definitions.specs.declared.script.TurnWord.{TurnWord}
 use Rattle.c5_definitions.specs.declared.script.ScriptKind.{ScriptKind}
+use Rattle.c5_definitions.specs.declared.script.Statement.{Statement}
 use Rattle.c5_definitions.specs.Steps.{◌>>=◌}
 use Rattle.c5_definitions.specs.ScriptParts.{ScriptParts}
 use Rattle.c5_definitions.specs.ScriptSoFar.{ScriptSoFar, Block, outside, in_txn, in_read}
@@ -39,3 +40,7 @@ BlockFits (Some script) (Read read) = FitsAsRead script read.session read.lines
 -- the script with more turn words
 abbrev pub with_turns : ScriptParts → Result (List TurnWord) ScriptKind → Result ScriptParts ScriptKind
 with_turns script read = read >>= λ new. Ok (record { tables = script.tables; bodies = script.bodies; reads = script.reads; turns = script.turns ++ new })
+
+-- the transaction of a body with one statement more
+abbrev pub with_statement : List Statement → Result Statement ScriptKind → Result Block ScriptKind
+with_statement body read = read >>= λ new. Ok (in_txn (body ++ new ∷ []))

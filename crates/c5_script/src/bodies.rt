@@ -1,6 +1,6 @@
 //! Bodies of transactions.
 
-ghost use Rattle.std.specs.Prelude.{◌≡◌, ◌<◌, ◌++◌, ◌∷◌, [], length, OnOk, OnErr};
+ghost use Rattle.std.specs.Prelude.{◌≡◌, ◌<◌, ◌++◌, ◌∷◌, [], length, IfOk, OnOk, OnErr};
 ghost use Rattle.std.specs.List.{AllByRecursion};
 ghost use Rattle.c5_rows.specs.Bytes.{IsKey};
 ghost use Rattle.c5_definitions.specs.Lawful.{IsLawfulCell};
@@ -87,6 +87,14 @@ impl Body {
         }
     }
 
+    /// No statements, and room for so many.
+    pub(crate) fn with_capacity(alloc: Global, count: usize) -> Result<Self, NoMemory>
+        ensures { IfOk result (λ body. body ≡ []) }
+    {
+        let statements = Vec::with_capacity(alloc, count)?;
+        Ok(Body { statements })
+    }
+
     /// Adds a statement at the end. After `NoMemory` nothing has changed.
     pub fn push(&mut self, statement: Statement) -> Result<(), NoMemory>
         requires room { length self.old < 256 }
@@ -94,7 +102,9 @@ impl Body {
         ensures err { OnErr result (self.new ≡ self.old) }
     {
         know_parts(&statement);
-        self.statements.push(statement)?;
+        // Room is made first: a push that may fail gives the statement back, and each way costs a copy of it.
+        self.statements.reserve(1)?;
+        self.statements.push_reserved(statement);
         Ok(())
     }
 

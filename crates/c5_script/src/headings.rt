@@ -138,6 +138,16 @@ pub(crate) fn add_turns(script: &mut Script, words: &[Word]) -> Result<(), LineE
     turns_in(script, words)
 }
 
+// How many statements the transaction before has: a guess for the next one, which then has its memory at once.
+fn statements_before(script: &Script) -> usize
+    ensures { result ≤ 256 }
+{
+    match script.bodies().last() {
+        Some(body) => body.statements().len(),
+        None => 0,
+    }
+}
+
 /// Takes a line outside blocks, where a table stands.
 #[tactic(auto, unfolding(c5_definitions::specs::Statements::standing_line))]
 pub(crate) fn add_standing(
@@ -153,7 +163,8 @@ pub(crate) fn add_standing(
 {
     if first == b"txn".as_slice() {
         check_txn(words)?;
-        *block = OpenBlock::Txn(Body::new(alloc));
+        let body = Body::with_capacity(alloc, statements_before(script))?;
+        *block = OpenBlock::Txn(body);
         Ok(())
     } else if first == b"read".as_slice() {
         let session = new_read(script.reads().len(), words)?;

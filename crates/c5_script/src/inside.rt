@@ -14,13 +14,13 @@ use crate::bodies::Body;
 use crate::fault::LineError;
 use crate::questions::question;
 use crate::script::Script;
-use crate::statements::statement;
+use crate::statements::add_statement;
 use crate::word::Word;
 use c5_definitions::ScriptKind;
 use std::alloc::Global;
 
 #[tactic(auto, unfolding(c5_definitions::specs::Statements::inside_line))]
-fn add_statement(
+fn next_statement(
     script: &Script,
     body: &mut Body,
     first: &[u8],
@@ -30,10 +30,7 @@ fn add_statement(
     ensures step { StepsTo (λ _. in_txn body.new) result (inside_line (in_txn body.old) script.now.tables first.now (words_of words.now)) }
     ensures fits { BodyFits script.now.tables body.new }
 {
-    let count = body.statements().len();
-    let statement = statement(script.schema().tables(), count, first, words)?;
-    body.push(statement)?;
-    Ok(())
+    add_statement(body, script.schema().tables(), first, words)
 }
 
 #[tactic(auto, unfolding(c5_definitions::specs::Statements::inside_line))]
@@ -85,7 +82,7 @@ pub(crate) fn add_line(
 {
     match block {
         OpenBlock::Outside => Err(LineError::Fault(ScriptKind::Word)),
-        OpenBlock::Txn(body) => add_statement(script, body, first, words),
+        OpenBlock::Txn(body) => next_statement(script, body, first, words),
         OpenBlock::Opened(session) => {
             let read = first_question(alloc, script, *session, first, words)?;
             *block = OpenBlock::Read(read);

@@ -1,10 +1,12 @@
 //! How much a script may hold.
 
-ghost use Rattle.std.specs.Prelude.{◌≡◌, ◌≤◌, ◌<◌, ◌++◌, ◌↔◌, Err, length, IfOk, OnOk};
+ghost use Rattle.std.specs.Prelude.{◌≡◌, ◌≤◌, ◌<◌, ◌||◌, ◌↔◌, List, Err, length, IfOk, OnOk};
 ghost use Rattle.std.specs.List.{filter_map};
 ghost use Rattle.std.specs.Set.{distinct_count};
 ghost use Rattle.std.specs.Ordering.{eq_by_cmp};
 ghost use Rattle.c5_rows.specs.Order.{row_name_cmp};
+ghost use Rattle.c5_script.specs.Rows.{is_row};
+ghost use Rattle.c5_rows.specs.declared.writes.RowName.{RowName};
 ghost use Rattle.c5_definitions.specs.Limits.{written_name, written_names, write_statements, written_rows, AreWithinLimits};
 
 use crate::bodies::Body;
@@ -74,32 +76,89 @@ fn writes_in(bodies: &[Body]) -> usize
     count
 }
 
+// How many places are kept of names that were met.
+const SLOTS: usize = 131_072;
+
+// Where the place of the name is kept.
+fn slot_of(name: &RowName) -> usize
+    ensures { result < 131072 }
+{
+    let mut slot = name.table as usize;
+    for byte in name.key.bytes() {
+        slot = (slot * 31 + *byte as usize) % SLOTS;
+    }
+    slot
+}
+
+fn is_same(a: &RowName, b: &RowName) -> bool
+    ensures { result ≡ eq_by_cmp row_name_cmp a.now b.now }
+{
+    a == b
+}
+
+// Adds the name where it isn't held, and maybe where it is: `places` has places of some names that are held.
+// A row that is written often then stands few times among the names.
+fn push_name(names: &mut Vec<RowName>, places: &mut [usize], name: RowName) -> Result<(), NoMemory>
+    requires { length places.old ≡ 131072 }
+    ensures same_length { length places.new ≡ 131072 }
+    ensures names { OnOk result ((q : RowName) → is_row names.new.items q ≡ (is_row names.old.items q || eq_by_cmp row_name_cmp q name)) }
+{
+    let slot = slot_of(&name);
+    let place = places[slot];
+    if place < names.len() && is_same(&names[place], &name) {
+        return Ok(());
+    }
+    places[slot] = names.len();
+    names.push(name)?;
+    Ok(())
+}
+
 // Adds the names of the rows that the statements write.
-fn push_names(names: &mut Vec<RowName>, statements: &[Statement]) -> Result<(), NoMemory>
-    ensures { OnOk result (names.new.items ≡ names.old.items ++ filter_map written_name statements.now) }
+fn push_names(
+    names: &mut Vec<RowName>,
+    places: &mut [usize],
+    statements: &[Statement],
+) -> Result<(), NoMemory>
+    requires { length places.old ≡ 131072 }
+    ensures same_length { length places.new ≡ 131072 }
+    ensures names { OnOk result ((q : RowName) → is_row names.new.items q ≡ (is_row names.old.items q || is_row (filter_map written_name statements.now) q)) }
 {
     for statement in statements {
         if let Some(name) = written_by(statement) {
-            names.push(name)?;
+            push_name(names, places, name)?;
         }
     }
     Ok(())
 }
 
-// The names of the rows that the bodies write, of which there are `count`.
+// Adds the names of the rows that the bodies write.
+fn push_all_names(
+    names: &mut Vec<RowName>,
+    places: &mut [usize],
+    bodies: &[Body],
+) -> Result<(), NoMemory>
+    requires { length places.old ≡ 131072 }
+    ensures { OnOk result ((q : RowName) → is_row names.new.items q ≡ (is_row names.old.items q || is_row (written_names bodies.now) q)) }
+{
+    for body in bodies {
+        push_names(names, places, body.statements())?;
+    }
+    Ok(())
+}
+
+// The names of the rows that the bodies write with `count` statements.
 fn names_in(alloc: Global, bodies: &[Body], count: usize) -> Result<Vec<RowName>, NoMemory>
-    ensures { IfOk result (λ names. names.items ≡ written_names bodies.now) }
+    ensures { IfOk result (λ names. (q : RowName) → is_row names.items q ≡ is_row (written_names bodies.now) q) }
 {
     let mut names = Vec::with_capacity(alloc, count)?;
-    for body in bodies {
-        push_names(&mut names, body.statements())?;
-    }
+    let mut places = vec![in alloc; 0; SLOTS]?;
+    push_all_names(&mut names, &mut places, bodies)?;
     Ok(names)
 }
 
-// How many different names there are.
+// How many different names there are, here and in each list that has the same ones.
 fn different(names: Vec<RowName>) -> usize
-    ensures { result ≡ distinct_count (eq_by_cmp row_name_cmp) names.items }
+    ensures { (all : List RowName) → ((q : RowName) → is_row names.items q ≡ is_row all q) → result ≡ distinct_count (eq_by_cmp row_name_cmp) all }
 {
     let mut names = names;
     names.sort_unstable();
@@ -123,8 +182,16 @@ impl Script {
         if count > MOST_WRITES {
             return Err(OverFault::Writes);
         }
+        // There are no more rows than writes.
+        if count <= MOST_ROWS {
+            return Ok(());
+        }
         match names_in(alloc, bodies, count) {
             Ok(names) => {
+                // There are no more rows than names.
+                if names.len() <= MOST_ROWS {
+                    return Ok(());
+                }
                 if different(names) > MOST_ROWS {
                     return Err(OverFault::Rows);
                 }

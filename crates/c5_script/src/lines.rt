@@ -3,10 +3,12 @@
 ghost use Rattle.std.specs.Prelude.{◌≡◌, ◌<◌, ◌==◌, ◌∷◌, ◌≤◌, length, position};
 ghost use Rattle.c5_definitions.specs.Lines.{lines_of, behind_lines};
 
+use memchr::memchr;
+
 fn line_end(bytes: &[u8]) -> Option<usize>
     ensures { result ≡ position (λ byte. byte == 10) bytes.now }
 {
-    bytes.iter().position(|byte| *byte == b'\n')
+    memchr(b'\n', bytes)
 }
 
 /// The first line, without its end, and the bytes behind it.

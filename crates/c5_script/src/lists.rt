@@ -2,12 +2,13 @@
 
 ghost use Rattle.std.specs.Prelude.{◌≡◌, ◌≤◌, ◌<◌, ◌∷◌, length};
 ghost use Rattle.c5_definitions.specs.Places.{type_in, key_in, each_in, row_in};
+ghost use Rattle.c5_script.specs.Taking.{Gives};
 ghost use Rattle.c5_script.specs.Words.{word_of, words_of};
 
 use crate::places::{cell, column_type, key};
 use crate::word::Word;
 use c5_definitions::{Keys, ScriptKind};
-use c5_rows::{Cell, CellType, Columns, Row};
+use c5_rows::{CellType, Columns, Row};
 
 /// The types of the columns of a table.
 pub(crate) fn column_types(words: &[Word]) -> Result<Columns, ScriptKind>
@@ -40,22 +41,25 @@ pub(crate) fn keys(first: Word, others: &[Word]) -> Result<Keys, ScriptKind>
     Ok(keys)
 }
 
-/// The cells of a row, one for each column.
-pub(crate) fn row(columns: &[CellType], words: &[Word]) -> Result<Row, ScriptKind>
+/// Reads the cells of a row, one for each column, to where the row lies: a row that is returned is copied.
+/// What `row` is after an `Err` isn't said.
+pub(crate) fn read_row(
+    row: &mut Row,
+    columns: &[CellType],
+    words: &[Word],
+) -> Result<(), ScriptKind>
     requires some { 1 ≤ length words.now }
     requires at_most_eight { length columns.now ≤ 8 }
-    ensures { result ≡ row_in columns.now (words_of words.now) }
+    ensures { Gives (λ _. row.new) result (row_in columns.now (words_of words.now)) }
 {
     if words.len() != columns.len() {
         return Err(ScriptKind::Count);
     }
-    let mut cells = [Cell::Int(0); 8];
-    for (column, word) in words.iter().enumerate() {
-        let found = cell(columns[column], *word)?;
-        cells[column] = found;
+    let first = cell(columns[0], words[0])?;
+    *row = Row::one(first);
+    for column in 1..words.len() {
+        let next = cell(columns[column], words[column])?;
+        row.push(next);
     }
-    match Row::new(&cells[..words.len()]) {
-        Some(row) => Ok(row),
-        None => unreachable!(),
-    }
+    Ok(())
 }

@@ -1,6 +1,7 @@
 //! The test of a word by its place on the line.
 
 ghost use Rattle.std.specs.Prelude.{◌≡◌, ◌≤◌, None, length, IfOk};
+ghost use Rattle.std.specs.Str.{bytes_eq};
 ghost use Rattle.c5_definitions.specs.Numerals.{turn_number_of};
 ghost use Rattle.c5_rows.specs.Tables.{IsSchema, table_of};
 ghost use Rattle.c5_definitions.specs.Places.{new_name_in, type_in, table_in, key_in, row_name_in, number_in, cell_in, found_or, columns_of, column_in, rel_in, session_in, turn_in, int_column_of};
@@ -11,13 +12,22 @@ use crate::word::Word;
 use c5_definitions::{Rel, ScriptKind, TurnWord};
 use c5_rows::{Cell, CellType, Key, RowName, TableDef, TableName, TextCell};
 
+// Whether the table has this name. Names of one length that begin alike mostly differ in their last byte.
+fn has_name(table: &TableDef, name: &[u8]) -> bool
+    ensures { result ≡ bytes_eq table.now.name name.now }
+{
+    let own = table.name.bytes();
+    let last = own.len() - 1;
+    own.len() == name.len() && own[last] == name[last] && own == name
+}
+
 // The number of the table of this name.
 fn number_named(tables: &[TableDef], name: &[u8]) -> Option<u8>
     requires { length tables.now ≤ 16 }
     ensures { result ≡ table_of name.now tables.now }
 {
     for (number, table) in tables.iter().enumerate() {
-        if table.name.bytes() == name {
+        if has_name(table, name) {
             return Some(number as u8);
         }
     }

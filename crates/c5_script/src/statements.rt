@@ -1,124 +1,164 @@
-//! The statements of a transaction.
+//! The statements of a transaction. Each is added to the body by the function that reads it: a statement has more
+//! than 300 bytes, and each function that handed it on would copy it.
 
-ghost use Rattle.std.specs.Prelude.{◌≡◌, ◌≤◌, ◌<◌, ◌∷◌, [], length, IfOk, OnOk};
-ghost use Rattle.c5_definitions.specs.FitsScript.{StatementFits};
+ghost use Rattle.std.specs.Prelude.{◌≡◌, ◌≤◌, ◌<◌, ◌∷◌, [], length, OnErr};
+ghost use Rattle.c5_definitions.specs.FitsScript.{BodyFits};
+ghost use Rattle.c5_definitions.specs.ScriptSoFar.{in_txn};
 ghost use Rattle.c5_definitions.specs.Statements.{put_of, put_words, del_words, need_words, add_words, copy_words, form_of, statement_words, statement_line};
 ghost use Rattle.c5_script.specs.Forms.{form_held};
-ghost use Rattle.c5_script.specs.Taking.{Gives};
+ghost use Rattle.c5_script.specs.Partial.{with_statement};
+ghost use Rattle.c5_script.specs.Taking.{Gives, StepsTo};
 ghost use Rattle.c5_script.specs.Words.{word_of, words_of};
 
-use crate::lists::row;
+use crate::bodies::Body;
+use crate::fault::LineError;
+use crate::lists::read_row;
 use crate::places::{columns, int_column, key, number, rel, row_name};
 use crate::word::Word;
 use c5_definitions::{ScriptKind, Statement};
-use c5_rows::{RowName, TableDef};
+use c5_rows::{Cell, Row, RowName, TableDef};
 
 /// How many statements a transaction has at most.
 const MOST_STATEMENTS: usize = 256;
 
 #[tactic(auto, unfolding(c5_definitions::specs::Statements::put_of))]
+#[inline(never)]
 fn put_of(
+    body: &mut Body,
     tables: &[TableDef],
     table: Word,
     key: Word,
     cells: &[Word],
-) -> Result<Statement, ScriptKind>
+) -> Result<(), LineError>
     requires tables { length tables.now ≤ 16 }
+    requires room { length body.old < 256 }
     requires some { 1 ≤ length cells.now }
-    ensures { result ≡ put_of tables.now (word_of table.entry) (word_of key.entry) (words_of cells.now) }
+    ensures step { StepsTo (λ _. in_txn body.new) result (with_statement body.old (put_of tables.now (word_of table.entry) (word_of key.entry) (words_of cells.now))) }
+    ensures err { OnErr result (body.new ≡ body.old) }
 {
     let name = row_name(tables, table, key)?;
-    let row = row(columns(tables, name.table), cells)?;
-    Ok(Statement::Put { name, row })
+    let mut row = Row::one(Cell::Int(0));
+    read_row(&mut row, columns(tables, name.table), cells)?;
+    body.push(Statement::Put { name, row })?;
+    Ok(())
 }
 
 #[tactic(auto, unfolding(c5_definitions::specs::Statements::put_words))]
-fn put(tables: &[TableDef], words: &[Word]) -> Result<Statement, ScriptKind>
-    requires { length tables.now ≤ 16 }
-    ensures { result ≡ put_words tables.now (words_of words.now) }
+fn put(body: &mut Body, tables: &[TableDef], words: &[Word]) -> Result<(), LineError>
+    requires tables { length tables.now ≤ 16 }
+    requires room { length body.old < 256 }
+    ensures step { StepsTo (λ _. in_txn body.new) result (with_statement body.old (put_words tables.now (words_of words.now))) }
+    ensures err { OnErr result (body.new ≡ body.old) }
 {
     match words {
-        [] | [_] | [_, _] => Err(ScriptKind::Count),
-        [table, key, cells @ ..] => put_of(tables, *table, *key, cells),
+        [] | [_] | [_, _] => Err(LineError::Fault(ScriptKind::Count)),
+        [table, key, cells @ ..] => put_of(body, tables, *table, *key, cells),
     }
 }
 
 #[tactic(auto, unfolding(c5_definitions::specs::Statements::del_words))]
-fn del(tables: &[TableDef], words: &[Word]) -> Result<Statement, ScriptKind>
-    requires { length tables.now ≤ 16 }
-    ensures { result ≡ del_words tables.now (words_of words.now) }
+#[inline(never)]
+fn del(body: &mut Body, tables: &[TableDef], words: &[Word]) -> Result<(), LineError>
+    requires tables { length tables.now ≤ 16 }
+    requires room { length body.old < 256 }
+    ensures step { StepsTo (λ _. in_txn body.new) result (with_statement body.old (del_words tables.now (words_of words.now))) }
+    ensures err { OnErr result (body.new ≡ body.old) }
 {
     let [table, key] = words else {
-        return Err(ScriptKind::Count);
+        return Err(LineError::Fault(ScriptKind::Count));
     };
     let name = row_name(tables, *table, *key)?;
-    Ok(Statement::Del { name })
+    body.push(Statement::Del { name })?;
+    Ok(())
 }
 
 #[tactic(auto, unfolding(c5_definitions::specs::Statements::need_words))]
+#[inline(never)]
 fn need_of(
+    body: &mut Body,
     tables: &[TableDef],
     table: Word,
     key: Word,
     column: Word,
     relation: Word,
     limit: Word,
-) -> Result<Statement, ScriptKind>
-    requires { length tables.now ≤ 16 }
-    ensures { result ≡ need_words tables.now (word_of table.entry ∷ word_of key.entry ∷ word_of column.entry ∷ word_of relation.entry ∷ word_of limit.entry ∷ []) }
+) -> Result<(), LineError>
+    requires tables { length tables.now ≤ 16 }
+    requires room { length body.old < 256 }
+    ensures step { StepsTo (λ _. in_txn body.new) result (with_statement body.old (need_words tables.now (word_of table.entry ∷ word_of key.entry ∷ word_of column.entry ∷ word_of relation.entry ∷ word_of limit.entry ∷ []))) }
+    ensures err { OnErr result (body.new ≡ body.old) }
 {
     let name = row_name(tables, table, key)?;
     let col = int_column(columns(tables, name.table), column)?;
     let rel = rel(relation)?;
     let n = number(limit)?;
-    Ok(Statement::Need { name, col, rel, n })
+    body.push(Statement::Need { name, col, rel, n })?;
+    Ok(())
 }
 
 #[tactic(auto, unfolding(c5_definitions::specs::Statements::need_words))]
-fn need(tables: &[TableDef], words: &[Word]) -> Result<Statement, ScriptKind>
-    requires { length tables.now ≤ 16 }
-    ensures { result ≡ need_words tables.now (words_of words.now) }
+fn need(body: &mut Body, tables: &[TableDef], words: &[Word]) -> Result<(), LineError>
+    requires tables { length tables.now ≤ 16 }
+    requires room { length body.old < 256 }
+    ensures step { StepsTo (λ _. in_txn body.new) result (with_statement body.old (need_words tables.now (words_of words.now))) }
+    ensures err { OnErr result (body.new ≡ body.old) }
 {
     match words {
         [table, key, column, relation, limit] => {
-            need_of(tables, *table, *key, *column, *relation, *limit)
+            need_of(body, tables, *table, *key, *column, *relation, *limit)
         }
-        _ => Err(ScriptKind::Count),
+        _ => Err(LineError::Fault(ScriptKind::Count)),
     }
 }
 
 #[tactic(auto, unfolding(c5_definitions::specs::Statements::add_words))]
+#[inline(never)]
 fn add_of(
+    body: &mut Body,
     tables: &[TableDef],
     table: Word,
     key: Word,
     column: Word,
     amount: Word,
-) -> Result<Statement, ScriptKind>
-    requires { length tables.now ≤ 16 }
-    ensures { result ≡ add_words tables.now (word_of table.entry ∷ word_of key.entry ∷ word_of column.entry ∷ word_of amount.entry ∷ []) }
+) -> Result<(), LineError>
+    requires tables { length tables.now ≤ 16 }
+    requires room { length body.old < 256 }
+    ensures step { StepsTo (λ _. in_txn body.new) result (with_statement body.old (add_words tables.now (word_of table.entry ∷ word_of key.entry ∷ word_of column.entry ∷ word_of amount.entry ∷ []))) }
+    ensures err { OnErr result (body.new ≡ body.old) }
 {
     let name = row_name(tables, table, key)?;
     let col = int_column(columns(tables, name.table), column)?;
     let n = number(amount)?;
-    Ok(Statement::Add { name, col, n })
+    body.push(Statement::Add { name, col, n })?;
+    Ok(())
 }
 
 #[tactic(auto, unfolding(c5_definitions::specs::Statements::add_words))]
-fn add(tables: &[TableDef], words: &[Word]) -> Result<Statement, ScriptKind>
-    requires { length tables.now ≤ 16 }
-    ensures { result ≡ add_words tables.now (words_of words.now) }
+fn add(body: &mut Body, tables: &[TableDef], words: &[Word]) -> Result<(), LineError>
+    requires tables { length tables.now ≤ 16 }
+    requires room { length body.old < 256 }
+    ensures step { StepsTo (λ _. in_txn body.new) result (with_statement body.old (add_words tables.now (words_of words.now))) }
+    ensures err { OnErr result (body.new ≡ body.old) }
 {
     match words {
-        [table, key, column, amount] => add_of(tables, *table, *key, *column, *amount),
-        _ => Err(ScriptKind::Count),
+        [table, key, column, amount] => add_of(body, tables, *table, *key, *column, *amount),
+        _ => Err(LineError::Fault(ScriptKind::Count)),
     }
 }
 
 #[tactic(auto, unfolding(c5_definitions::specs::Statements::copy_words))]
-fn copy_of(tables: &[TableDef], table: Word, from: Word, to: Word) -> Result<Statement, ScriptKind>
-    requires { length tables.now ≤ 16 }
-    ensures { result ≡ copy_words tables.now (word_of table.entry ∷ word_of from.entry ∷ word_of to.entry ∷ []) }
+#[inline(never)]
+fn copy_of(
+    body: &mut Body,
+    tables: &[TableDef],
+    table: Word,
+    from: Word,
+    to: Word,
+) -> Result<(), LineError>
+    requires tables { length tables.now ≤ 16 }
+    requires room { length body.old < 256 }
+    ensures step { StepsTo (λ _. in_txn body.new) result (with_statement body.old (copy_words tables.now (word_of table.entry ∷ word_of from.entry ∷ word_of to.entry ∷ []))) }
+    ensures err { OnErr result (body.new ≡ body.old) }
 {
     let from = row_name(tables, table, from)?;
     let key = key(to)?;
@@ -126,17 +166,20 @@ fn copy_of(tables: &[TableDef], table: Word, from: Word, to: Word) -> Result<Sta
         table: from.table,
         key,
     };
-    Ok(Statement::Copy { from, to })
+    body.push(Statement::Copy { from, to })?;
+    Ok(())
 }
 
 #[tactic(auto, unfolding(c5_definitions::specs::Statements::copy_words))]
-fn copy(tables: &[TableDef], words: &[Word]) -> Result<Statement, ScriptKind>
-    requires { length tables.now ≤ 16 }
-    ensures { result ≡ copy_words tables.now (words_of words.now) }
+fn copy(body: &mut Body, tables: &[TableDef], words: &[Word]) -> Result<(), LineError>
+    requires tables { length tables.now ≤ 16 }
+    requires room { length body.old < 256 }
+    ensures step { StepsTo (λ _. in_txn body.new) result (with_statement body.old (copy_words tables.now (words_of words.now))) }
+    ensures err { OnErr result (body.new ≡ body.old) }
 {
     match words {
-        [table, from, to] => copy_of(tables, *table, *from, *to),
-        _ => Err(ScriptKind::Count),
+        [table, from, to] => copy_of(body, tables, *table, *from, *to),
+        _ => Err(LineError::Fault(ScriptKind::Count)),
     }
 }
 
@@ -170,35 +213,42 @@ fn form_of(first: &[u8]) -> Result<Form, ScriptKind>
 }
 
 #[tactic(auto, unfolding(c5_definitions::specs::Statements::statement_words))]
-fn statement_of(form: Form, tables: &[TableDef], words: &[Word]) -> Result<Statement, ScriptKind>
-    requires { length tables.now ≤ 16 }
-    ensures { result ≡ statement_words (form_held form) tables.now (words_of words.now) }
+fn statement_of(
+    body: &mut Body,
+    tables: &[TableDef],
+    form: Form,
+    words: &[Word],
+) -> Result<(), LineError>
+    requires tables { length tables.now ≤ 16 }
+    requires room { length body.old < 256 }
+    ensures step { StepsTo (λ _. in_txn body.new) result (with_statement body.old (statement_words (form_held form) tables.now (words_of words.now))) }
+    ensures err { OnErr result (body.new ≡ body.old) }
 {
     match form {
-        Form::Put => put(tables, words),
-        Form::Del => del(tables, words),
-        Form::Need => need(tables, words),
-        Form::Add => add(tables, words),
-        Form::Copy => copy(tables, words),
+        Form::Put => put(body, tables, words),
+        Form::Del => del(body, tables, words),
+        Form::Need => need(body, tables, words),
+        Form::Add => add(body, tables, words),
+        Form::Copy => copy(body, tables, words),
     }
 }
 
-/// The statement of a line that stands behind `count` others in its transaction.
+/// Adds the statement of a line to the body.
 #[tactic(auto, unfolding(c5_definitions::specs::Statements::statement_line))]
-pub(crate) fn statement(
+pub(crate) fn add_statement(
+    body: &mut Body,
     tables: &[TableDef],
-    count: usize,
     first: &[u8],
     words: &[Word],
-) -> Result<Statement, ScriptKind>
-    requires { length tables.now ≤ 16 }
-    ensures value { result ≡ statement_line tables.now count first.now (words_of words.now) }
-    ensures fits { IfOk result (λ statement. StatementFits tables.now statement) }
-    ensures room { OnOk result (count < 256) }
+) -> Result<(), LineError>
+    requires tables { length tables.now ≤ 16 }
+    requires fits { BodyFits tables.now body.old }
+    ensures step { StepsTo (λ _. in_txn body.new) result (with_statement body.old (statement_line tables.now (length body.old) first.now (words_of words.now))) }
+    ensures fits { BodyFits tables.now body.new }
 {
     let form = form_of(first)?;
-    if count >= MOST_STATEMENTS {
-        return Err(ScriptKind::Limit);
+    if body.statements().len() >= MOST_STATEMENTS {
+        return Err(LineError::Fault(ScriptKind::Limit));
     }
-    statement_of(form, tables, words)
+    statement_of(body, tables, form, words)
 }

@@ -12,11 +12,22 @@ use crate::fault::LineError;
 use crate::word::Word;
 use c5_definitions::ScriptKind;
 
-// Each byte of the line is a blank or a printable byte.
+fn is_line_byte(byte: u8) -> bool
+    ensures { result ≡ is_line_byte byte }
+{
+    byte >= b' ' && byte <= b'~'
+}
+
+// Each byte of the line is a blank or a printable byte. Each is tested, also behind one that is not allowed:
+// so there is no branch in the loop.
 fn has_line_bytes(line: &[u8]) -> bool
     ensures { result ≡ list_all is_line_byte line.now }
 {
-    line.iter().all(|byte| (b' '..=b'~').contains(byte))
+    let mut all = true;
+    for byte in line {
+        all = all & is_line_byte(*byte);
+    }
+    all
 }
 
 fn bare_end(bytes: &[u8]) -> Option<usize>

@@ -1,9 +1,0 @@
-use Rattle.std.proofs.Common.{◌≡◌, length, take, drop}
-use Rattle.c5_definitions.specs.Places.{cells_in}
-use Rattle.c5_script.specs.Words.{words_of}
-use Rattle.c5_script.proofs.Each.{with_front}
-use Rattle.c5_script.proofs.lists.row.Given as goal
-
--- the cells so far and those that are still read are those of all words
-abbrev pub invariant-loop-column : goal.invariant-loop-column
-invariant-loop-column l = record { eight : length l.cells ≡ 8; reading : with_front (take l.column l.cells) (cells_in (drop l.column l.columns) (words_of (drop l.column l.words))) ≡ cells_in l.columns (words_of l.words) }

@@ -1,7 +1,0 @@
-use Rattle.c5_script.specs.Forms.{form_held}
-use Rattle.c5_script.specs.Words.{words_of}
-use Rattle.c5_script.proofs.FitsLines.{returned-statement-fits}
-use Rattle.c5_script.proofs.statements.statement.Goals as goal
-
-pub returns-clause-fits : goal.returns-clause-fits
-returns-clause-fits c = returned-statement-fits (form_held c.in_ok-form.form) c.args.tables.now (words_of c.args.words.now) c.statement_of.result c.statement_of.ensures
