@@ -34,16 +34,25 @@ fn is_name_byte(byte: u8) -> bool
     byte.is_ascii_lowercase() || byte.is_ascii_digit() || byte == b'_'
 }
 
+// Each byte is tested, also behind one that is not allowed: so there is no branch in the loop.
 fn are_key_bytes(bytes: &[u8]) -> bool
     ensures { result ≡ list_all is_key_byte bytes.now }
 {
-    bytes.iter().all(|byte| is_key_byte(*byte))
+    let mut all = true;
+    for byte in bytes {
+        all = all & is_key_byte(*byte);
+    }
+    all
 }
 
 fn are_text_bytes(bytes: &[u8]) -> bool
     ensures { result ≡ list_all is_text_byte bytes.now }
 {
-    bytes.iter().all(|byte| is_text_byte(*byte))
+    let mut all = true;
+    for byte in bytes {
+        all = all & is_text_byte(*byte);
+    }
+    all
 }
 
 fn are_name_bytes(bytes: &[u8]) -> bool
