@@ -18,33 +18,27 @@ use std::marker::Model;
 #[derive(Drop)]
 pub struct RowsReader<'a> {
     rows: &'a Rows,
-    asked: Vec<(RowName, Option<Row>)>,
+    // The rows never change, so the names say what was answered too.
+    asked: Vec<RowName>,
     refusals: u64,
 }
 
 impl<'a> Model for RowsReader<'a> {
-    ghost use Rattle.c5_eval.specs.Reader.{ReaderState, reader_code};
-    ghost use Rattle.c5_definitions.specs.Follows.{AnsweredBy};
+    ghost use Rattle.c5_eval.specs.Reader.{ReaderState, reader_code, answers_to};
 
     ghost Value = { ReaderState };
 
     ghost coded = { reader_code };
 
-    ghost view = { λ r. record { base = r.rows.now; asked = r.asked.items; refusals = r.refusals } };
-
-    ghost invariant = { λ r. AnsweredBy r.rows.now r.asked.items };
+    ghost view = { λ r. record { base = r.rows.now; asked = answers_to r.rows.now r.asked.items; refusals = r.refusals } };
 }
 
-// Keeps what was asked and answered.
-fn note(
-    asked: &mut Vec<(RowName, Option<Row>)>,
-    name: &RowName,
-    row: &Option<Row>,
-) -> Result<(), NoMemory>
-    ensures ok { OnOk result (asked.new.items ≡ asked.old.items ++ (name.now, row.now) ∷ []) }
+// Keeps what was asked.
+fn note(asked: &mut Vec<RowName>, name: &RowName) -> Result<(), NoMemory>
+    ensures ok { OnOk result (asked.new.items ≡ asked.old.items ++ name.now ∷ []) }
     ensures err { OnErr result (asked.new.items ≡ asked.old.items) }
 {
-    asked.push((*name, *row))?;
+    asked.push(*name)?;
     Ok(())
 }
 
@@ -87,9 +81,8 @@ impl ReadRows for RowsReader<'_> {
     ghost refusals = { λ r. r.refusals };
 
     fn row(&mut self, name: &RowName) -> Result<Option<Row>, NoMemory> {
-        let row = row_of(self.rows, name);
-        match note(&mut self.asked, name, &row) {
-            Ok(()) => Ok(row),
+        match note(&mut self.asked, name) {
+            Ok(()) => Ok(row_of(self.rows, name)),
             Err(_) => {
                 self.refusals = self.refusals.saturating_add(1);
                 Err(NoMemory)

@@ -1,16 +1,19 @@
 //! Single statements.
 
-ghost use Rattle.std.specs.Prelude.{◌≡◌, ◌++◌, List, Option, Some, None, [], IfOk, OnErr, if◌then◌else◌};
+ghost use Rattle.std.specs.Prelude.{◌≡◌, ◌++◌, ◌∷◌, List, Option, Some, None, [], IfOk, OnErr, if◌then◌else◌};
+ghost use Rattle.c5_definitions.specs.Eval.{change_to};
 ghost use Rattle.c5_definitions.specs.Effects.{number_in, compares, add_effect, need_effect, keeps, declines, sets};
 ghost use Rattle.c5_definitions.specs.Follows.{Read, Finds};
+ghost use Rattle.c5_rows.specs.declared.cells.Cell.{Cell};
 ghost use Rattle.c5_rows.specs.declared.writes.RowName.{RowName};
 ghost use Rattle.c5_eval.specs.Refusals.{HasCause};
 ghost use Rattle.c5_eval.specs.Faults.{HasReadCause, Grew};
+ghost use Rattle.c5_eval.specs.Setting.{row_made};
 ghost use Rattle.c5_eval.specs.Stepping.{Acts, Takes, set_or_declined};
 
 use crate::own::Own;
 use crate::reading::{EvalFault, ReadRows};
-use c5_rows::{Cell, NoMemory, Row, RowName};
+use c5_rows::{Cell, Change, NoMemory, Row, RowName};
 use c5_script::{Rel, Statement};
 
 /// What follows on a statement.
@@ -22,16 +25,33 @@ pub enum Step {
     Declines,
 }
 
+// The number in a column of a row; `None` where there is none.
+fn number_of(row: &Row, col: u8) -> Option<i64>
+    ensures { result ≡ number_in col (Some row.now) }
+{
+    match row.cells().get(col as usize) {
+        Some(Cell::Int(n)) => Some(*n),
+        Some(Cell::Txt(_)) | None => None,
+    }
+}
+
 /// The number in a column of a row that may be absent; `None` where there is none.
 pub fn number_in(row: &Option<Row>, col: u8) -> Option<i64>
     ensures { result ≡ number_in col row.now }
 {
-    let Some(row) = row else {
-        return None;
-    };
-    match row.cells().get(col as usize) {
-        Some(Cell::Int(n)) => Some(*n),
-        Some(Cell::Txt(_)) | None => None,
+    match row {
+        Some(row) => number_of(row, col),
+        None => None,
+    }
+}
+
+// The number in a column of the row that a change makes; `None` where there is none.
+fn number_made(change: &Change, col: u8) -> Option<i64>
+    ensures { result ≡ number_in col (row_made change.now) }
+{
+    match change {
+        Change::Put(row) => number_of(row, col),
+        Change::Gone => None,
     }
 }
 
@@ -48,57 +68,135 @@ fn compares(rel: Rel, a: i64, b: i64) -> bool
     }
 }
 
-// Whether the row is there and its number compares so with `n`.
-fn meets(found: &Option<Row>, col: u8, rel: Rel, n: i64) -> bool
-    ensures { need_effect (number_in col found.now) rel n ≡ (if result then keeps else declines) }
+// Whether there is a number and it compares so with `n`.
+fn meets(number: Option<i64>, rel: Rel, n: i64) -> bool
+    ensures { need_effect number rel n ≡ (if result then keeps else declines) }
 {
-    match number_in(found, col) {
+    match number {
         Some(cell) => compares(rel, cell, n),
         None => false,
     }
 }
 
 // The row with `n` added in its column; `None` where there is no number, or the sum is no i64.
-fn added(found: &Option<Row>, col: u8, n: i64) -> Option<Row>
-    ensures { (name : RowName) → add_effect name col found.now (number_in col found.now) n ≡ set_or_declined name result }
+fn added(row: &Row, col: u8, n: i64) -> Option<Row>
+    ensures { (name : RowName) → add_effect name col (Some row.now) (number_in col (Some row.now)) n ≡ set_or_declined name result }
 {
-    let cell = number_in(found, col)?;
-    let Some(row) = found else {
-        return None;
-    };
+    let cell = number_of(row, col)?;
     let sum = cell.checked_add(n)?;
     Some(row.with(col, Cell::Int(sum)))
 }
 
-// The row as the body has set it, or else as the reader answers.
-fn row_of<R: ReadRows>(own: &Own, rows: &mut R, name: &RowName) -> Result<Option<Row>, R::Fault>
-    ensures found { IfOk result (λ found. (reads : List Read) × (R.asked rows.new ≡ R.asked rows.old ++ reads) × Finds (Some name.now) own.now reads found []) }
+// The row that a change makes, with `n` added in a column.
+fn sum_made(change: &Change, col: u8, n: i64) -> Option<Row>
+    ensures { (name : RowName) → add_effect name col (row_made change.now) (number_in col (row_made change.now)) n ≡ set_or_declined name result }
+{
+    match change {
+        Change::Put(row) => added(row, col, n),
+        Change::Gone => None,
+    }
+}
+
+// The change that makes a row this one.
+fn change_to(row: Option<Row>) -> Change
+    ensures { result ≡ change_to row }
+{
+    match row {
+        Some(row) => Change::Put(row),
+        None => Change::Gone,
+    }
+}
+
+// The number in a column of the row that the reader answers.
+#[inline(never)]
+fn asked_number<R: ReadRows>(
+    rows: &mut R,
+    name: &RowName,
+    col: u8,
+) -> Result<Option<i64>, R::Fault>
+    ensures answered { IfOk result (λ number. (found : Option (List Cell)) × (R.asked rows.new ≡ R.asked rows.old ++ (name.now, found) ∷ []) × (number ≡ number_in col found)) }
+    ensures refused { OnErr result (R.asked rows.new ≡ R.asked rows.old) }
+    ensures base { R.base rows.new ≡ R.base rows.old }
+    ensures cause { HasCause (R.refusals rows.old) (R.refusals rows.new) result }
+{
+    let found = rows.row(name)?;
+    Ok(number_in(&found, col))
+}
+
+// The number in a column of the row as the body has set it, or else as the reader answers.
+fn number_at<R: ReadRows>(
+    own: &Own,
+    rows: &mut R,
+    name: &RowName,
+    col: u8,
+) -> Result<Option<i64>, R::Fault>
+    ensures found { IfOk result (λ number. (reads : List Read) × (R.asked rows.new ≡ R.asked rows.old ++ reads) × (found : Option (List Cell)) × Finds (Some name.now) own.now reads found [] × (number ≡ number_in col found)) }
     ensures refused { OnErr result (R.asked rows.new ≡ R.asked rows.old) }
     ensures base { R.base rows.new ≡ R.base rows.old }
     ensures cause { HasCause (R.refusals rows.old) (R.refusals rows.new) result }
 {
     match own.get(name) {
-        Some(row) => Ok(*row),
-        None => rows.row(name),
+        Some(change) => Ok(number_made(change, col)),
+        None => asked_number(rows, name, col),
+    }
+}
+
+// What the row as the body has set it, or else as the reader answers, becomes.
+fn change_of<R: ReadRows>(own: &Own, rows: &mut R, name: &RowName) -> Result<Change, R::Fault>
+    ensures found { IfOk result (λ change. (reads : List Read) × (R.asked rows.new ≡ R.asked rows.old ++ reads) × Finds (Some name.now) own.now reads (row_made change) []) }
+    ensures refused { OnErr result (R.asked rows.new ≡ R.asked rows.old) }
+    ensures base { R.base rows.new ≡ R.base rows.old }
+    ensures cause { HasCause (R.refusals rows.old) (R.refusals rows.new) result }
+{
+    match own.get(name) {
+        Some(change) => Ok(*change),
+        None => Ok(change_to(rows.row(name)?)),
+    }
+}
+
+// The row that the reader answers, with `n` added in a column.
+fn asked_sum<R: ReadRows>(
+    rows: &mut R,
+    name: &RowName,
+    col: u8,
+    n: i64,
+) -> Result<Option<Row>, R::Fault>
+    ensures answered { IfOk result (λ sum. (found : Option (List Cell)) × (R.asked rows.new ≡ R.asked rows.old ++ (name.now, found) ∷ []) × (add_effect name.now col found (number_in col found) n ≡ set_or_declined name.now sum)) }
+    ensures refused { OnErr result (R.asked rows.new ≡ R.asked rows.old) }
+    ensures base { R.base rows.new ≡ R.base rows.old }
+    ensures cause { HasCause (R.refusals rows.old) (R.refusals rows.new) result }
+{
+    match rows.row(name)? {
+        Some(row) => Ok(added(&row, col, n)),
+        None => Ok(None),
+    }
+}
+
+// The row as the body has set it, or else as the reader answers, with `n` added in a column.
+fn sum_at<R: ReadRows>(
+    own: &Own,
+    rows: &mut R,
+    name: &RowName,
+    col: u8,
+    n: i64,
+) -> Result<Option<Row>, R::Fault>
+    ensures found { IfOk result (λ sum. (reads : List Read) × (R.asked rows.new ≡ R.asked rows.old ++ reads) × (found : Option (List Cell)) × Finds (Some name.now) own.now reads found [] × (add_effect name.now col found (number_in col found) n ≡ set_or_declined name.now sum)) }
+    ensures refused { OnErr result (R.asked rows.new ≡ R.asked rows.old) }
+    ensures base { R.base rows.new ≡ R.base rows.old }
+    ensures cause { HasCause (R.refusals rows.old) (R.refusals rows.new) result }
+{
+    match own.get(name) {
+        Some(change) => Ok(sum_made(change, col, n)),
+        None => asked_sum(rows, name, col, n),
     }
 }
 
 // Sets a row without a look at any.
-fn set(own: &mut Own, name: RowName, row: Option<Row>) -> Result<Step, NoMemory>
-    ensures { IfOk result (λ step. Acts (sets name row) own.old own.new step) }
+fn set(own: &mut Own, name: &RowName, change: Change) -> Result<Step, NoMemory>
+    ensures { IfOk result (λ step. Acts (sets name.now (row_made change)) own.old own.new step) }
 {
-    own.set(name, row)?;
+    own.set(name, change)?;
     Ok(Step::GoesOn)
-}
-
-// Sets a row where there is one, and declines otherwise.
-fn set_or_decline(own: &mut Own, name: RowName, row: Option<Row>) -> Result<Step, NoMemory>
-    ensures { IfOk result (λ step. Acts (set_or_declined name row) own.old own.new step) }
-{
-    match row {
-        Some(row) => set(own, name, Some(row)),
-        None => Ok(Step::Declines),
-    }
 }
 
 // Declines unless the row's number compares so with `n`.
@@ -115,11 +213,11 @@ fn need<R: ReadRows>(
     ensures base { R.base rows.new ≡ R.base rows.old }
     ensures cause { HasReadCause (R.refusals rows.old) (R.refusals rows.new) result }
 {
-    let found = match row_of(own, rows, name) {
-        Ok(found) => found,
+    let number = match number_at(own, rows, name, col) {
+        Ok(number) => number,
         Err(fault) => return Err(EvalFault::Read(fault)),
     };
-    if meets(&found, col, rel, n) {
+    if meets(number, rel, n) {
         Ok(Step::GoesOn)
     } else {
         Ok(Step::Declines)
@@ -139,11 +237,11 @@ fn add<R: ReadRows>(
     ensures base { R.base rows.new ≡ R.base rows.old }
     ensures cause { HasReadCause (R.refusals rows.old) (R.refusals rows.new) result }
 {
-    let found = match row_of(own, rows, name) {
-        Ok(found) => found,
-        Err(fault) => return Err(EvalFault::Read(fault)),
-    };
-    Ok(set_or_decline(own, *name, added(&found, col, n))?)
+    match sum_at(own, rows, name, col, n) {
+        Ok(Some(row)) => Ok(set(own, name, Change::Put(row))?),
+        Ok(None) => Ok(Step::Declines),
+        Err(fault) => Err(EvalFault::Read(fault)),
+    }
 }
 
 // Sets the row `to` to what the row `from` is.
@@ -151,15 +249,15 @@ fn copy<R: ReadRows>(
     own: &mut Own,
     rows: &mut R,
     from: &RowName,
-    to: RowName,
+    to: &RowName,
 ) -> Result<Step, EvalFault<R::Fault>>
-    ensures takes { IfOk result (λ step. (reads : List Read) × (R.asked rows.new ≡ R.asked rows.old ++ reads) × Takes (Statement.Copy from.now to) own.old own.new reads step) }
+    ensures takes { IfOk result (λ step. (reads : List Read) × (R.asked rows.new ≡ R.asked rows.old ++ reads) × Takes (Statement.Copy from.now to.now) own.old own.new reads step) }
     ensures asked { Grew (R.asked rows.old) (R.asked rows.new) }
     ensures base { R.base rows.new ≡ R.base rows.old }
     ensures cause { HasReadCause (R.refusals rows.old) (R.refusals rows.new) result }
 {
-    match row_of(own, rows, from) {
-        Ok(found) => Ok(set(own, to, found)?),
+    match change_of(own, rows, from) {
+        Ok(change) => Ok(set(own, to, change)?),
         Err(fault) => Err(EvalFault::Read(fault)),
     }
 }
@@ -176,10 +274,10 @@ pub fn perform<R: ReadRows>(
     ensures cause { HasReadCause (R.refusals rows.old) (R.refusals rows.new) result }
 {
     match statement {
-        Statement::Put { name, row } => Ok(set(own, *name, Some(*row))?),
-        Statement::Del { name } => Ok(set(own, *name, None)?),
+        Statement::Put { name, row } => Ok(set(own, name, Change::Put(*row))?),
+        Statement::Del { name } => Ok(set(own, name, Change::Gone)?),
         Statement::Need { name, col, rel, n } => need(own, rows, name, *col, *rel, *n),
         Statement::Add { name, col, n } => add(own, rows, name, *col, *n),
-        Statement::Copy { from, to } => copy(own, rows, from, *to),
+        Statement::Copy { from, to } => copy(own, rows, from, to),
     }
 }
