@@ -42,13 +42,6 @@ fn note(asked: &mut Vec<RowName>, name: &RowName) -> Result<(), NoMemory>
     Ok(())
 }
 
-// The row of a name, as a value.
-fn row_of(rows: &Rows, name: &RowName) -> Option<Row>
-    ensures { result ≡ map.get rows.now name.now }
-{
-    rows.get(name).copied()
-}
-
 impl<'a> RowsReader<'a> {
     /// A reader of these rows that nothing was asked of.
     pub fn new(alloc: Global, rows: &'a Rows) -> Self
@@ -81,17 +74,19 @@ impl ReadRows for RowsReader<'_> {
     ghost refusals = { λ r. r.refusals };
 
     fn row(&mut self, name: &RowName) -> Result<Option<Row>, NoMemory> {
-        match note(&mut self.asked, name) {
-            Ok(()) => Ok(row_of(self.rows, name)),
-            Err(_) => {
-                self.refusals = self.refusals.saturating_add(1);
-                Err(NoMemory)
-            }
+        if note(&mut self.asked, name).is_err() {
+            self.refusals = self.refusals.saturating_add(1);
+            return Err(NoMemory);
+        }
+        match self.rows.get(name) {
+            Some(row) => Ok(Some(*row)),
+            None => Ok(None),
         }
     }
 }
 
 /// What a body does on these rows.
+#[inline(never)]
 pub fn evaluate_rows(alloc: Global, body: &Body, rows: &Rows) -> Result<Outcome, NoMemory>
     ensures declined { IfOk result (λ outcome. outcome.declined ≡ (eval body.now rows.now).declined) }
     ensures writes { IfOk result (λ outcome. outcome.writes ≡ (eval body.now rows.now).writes) }

@@ -1,6 +1,6 @@
 //! Single statements.
 
-ghost use Rattle.std.specs.Prelude.{◌≡◌, ◌++◌, ◌∷◌, List, Option, Some, None, [], IfOk, OnErr, if◌then◌else◌};
+ghost use Rattle.std.specs.Prelude.{◌≡◌, ◌<◌, length, MatchOption, ◌++◌, ◌∷◌, List, Option, Some, None, [], IfOk, OnErr, if◌then◌else◌};
 ghost use Rattle.c5_definitions.specs.Eval.{change_to};
 ghost use Rattle.c5_definitions.specs.Effects.{number_in, compares, add_effect, need_effect, keeps, declines, sets};
 ghost use Rattle.c5_definitions.specs.Follows.{Read, Finds};
@@ -9,7 +9,7 @@ ghost use Rattle.c5_rows.specs.declared.writes.RowName.{RowName};
 ghost use Rattle.c5_eval.specs.Refusals.{HasCause};
 ghost use Rattle.c5_eval.specs.Faults.{HasReadCause, Grew};
 ghost use Rattle.c5_eval.specs.Setting.{row_made};
-ghost use Rattle.c5_eval.specs.Stepping.{Acts, Takes, set_or_declined};
+ghost use Rattle.c5_eval.specs.Stepping.{Acts, Takes, set_cell_or_declined};
 
 use crate::own::Own;
 use crate::reading::{EvalFault, ReadRows};
@@ -78,25 +78,6 @@ fn meets(number: Option<i64>, rel: Rel, n: i64) -> bool
     }
 }
 
-// The row with `n` added in its column; `None` where there is no number, or the sum is no i64.
-fn added(row: &Row, col: u8, n: i64) -> Option<Row>
-    ensures { (name : RowName) → add_effect name col (Some row.now) (number_in col (Some row.now)) n ≡ set_or_declined name result }
-{
-    let cell = number_of(row, col)?;
-    let sum = cell.checked_add(n)?;
-    Some(row.with(col, Cell::Int(sum)))
-}
-
-// The row that a change makes, with `n` added in a column.
-fn sum_made(change: &Change, col: u8, n: i64) -> Option<Row>
-    ensures { (name : RowName) → add_effect name col (row_made change.now) (number_in col (row_made change.now)) n ≡ set_or_declined name result }
-{
-    match change {
-        Change::Put(row) => added(row, col, n),
-        Change::Gone => None,
-    }
-}
-
 // The change that makes a row this one.
 fn change_to(row: Option<Row>) -> Change
     ensures { result ≡ change_to row }
@@ -154,43 +135,6 @@ fn change_of<R: ReadRows>(own: &Own, rows: &mut R, name: &RowName) -> Result<Cha
     }
 }
 
-// The row that the reader answers, with `n` added in a column.
-fn asked_sum<R: ReadRows>(
-    rows: &mut R,
-    name: &RowName,
-    col: u8,
-    n: i64,
-) -> Result<Option<Row>, R::Fault>
-    ensures answered { IfOk result (λ sum. (found : Option (List Cell)) × (R.asked rows.new ≡ R.asked rows.old ++ (name.now, found) ∷ []) × (add_effect name.now col found (number_in col found) n ≡ set_or_declined name.now sum)) }
-    ensures refused { OnErr result (R.asked rows.new ≡ R.asked rows.old) }
-    ensures base { R.base rows.new ≡ R.base rows.old }
-    ensures cause { HasCause (R.refusals rows.old) (R.refusals rows.new) result }
-{
-    match rows.row(name)? {
-        Some(row) => Ok(added(&row, col, n)),
-        None => Ok(None),
-    }
-}
-
-// The row as the body has set it, or else as the reader answers, with `n` added in a column.
-fn sum_at<R: ReadRows>(
-    own: &Own,
-    rows: &mut R,
-    name: &RowName,
-    col: u8,
-    n: i64,
-) -> Result<Option<Row>, R::Fault>
-    ensures found { IfOk result (λ sum. (reads : List Read) × (R.asked rows.new ≡ R.asked rows.old ++ reads) × (found : Option (List Cell)) × Finds (Some name.now) own.now reads found [] × (add_effect name.now col found (number_in col found) n ≡ set_or_declined name.now sum)) }
-    ensures refused { OnErr result (R.asked rows.new ≡ R.asked rows.old) }
-    ensures base { R.base rows.new ≡ R.base rows.old }
-    ensures cause { HasCause (R.refusals rows.old) (R.refusals rows.new) result }
-{
-    match own.get(name) {
-        Some(change) => Ok(sum_made(change, col, n)),
-        None => asked_sum(rows, name, col, n),
-    }
-}
-
 // Sets a row without a look at any.
 fn set(own: &mut Own, name: &RowName, change: Change) -> Result<Step, NoMemory>
     ensures { IfOk result (λ step. Acts (sets name.now (row_made change)) own.old own.new step) }
@@ -199,7 +143,16 @@ fn set(own: &mut Own, name: &RowName, change: Change) -> Result<Step, NoMemory>
     Ok(Step::GoesOn)
 }
 
+// Sets a row to this one.
+#[inline(never)]
+fn put(own: &mut Own, name: &RowName, row: &Row) -> Result<Step, NoMemory>
+    ensures { IfOk result (λ step. Acts (sets name.now (Some row.now)) own.old own.new step) }
+{
+    set(own, name, Change::Put(*row))
+}
+
 // Declines unless the row's number compares so with `n`.
+#[inline(never)]
 fn need<R: ReadRows>(
     own: &mut Own,
     rows: &mut R,
@@ -224,6 +177,59 @@ fn need<R: ReadRows>(
     }
 }
 
+// The number in the column with `n` added; `None` where there is no number, or the sum is no i64.
+fn sum_of(row: &Row, col: u8, n: i64) -> Option<i64>
+    ensures effect { (name : RowName) → add_effect name col (Some row.now) (number_in col (Some row.now)) n ≡ set_cell_or_declined name row.now col result }
+    ensures within { MatchOption result (Unit {0}) (λ _. col < length row.now) }
+{
+    number_of(row, col)?.checked_add(n)
+}
+
+// Adds to a number of this row and sets it so, or declines.
+fn add_to(own: &mut Own, name: &RowName, row: &mut Row, col: u8, n: i64) -> Result<Step, NoMemory>
+    ensures { IfOk result (λ step. Acts (add_effect name.now col (Some row.old) (number_in col (Some row.old)) n) own.old own.new step) }
+{
+    match sum_of(row, col, n) {
+        Some(sum) => {
+            row.set(col, Cell::Int(sum));
+            put(own, name, row)
+        }
+        None => Ok(Step::Declines),
+    }
+}
+
+// Adds to a number of the row that this change makes, or declines.
+#[inline(never)]
+fn add_again(own: &mut Own, name: &RowName, change: Change, col: u8, n: i64) -> Result<Step, NoMemory>
+    ensures { IfOk result (λ step. Acts (add_effect name.now col (row_made change) (number_in col (row_made change)) n) own.old own.new step) }
+{
+    match change {
+        Change::Put(mut row) => add_to(own, name, &mut row, col, n),
+        Change::Gone => Ok(Step::Declines),
+    }
+}
+
+// Adds to a number of the row that the reader answers, or declines.
+#[inline(never)]
+fn add_asked<R: ReadRows>(
+    own: &mut Own,
+    rows: &mut R,
+    name: &RowName,
+    col: u8,
+    n: i64,
+) -> Result<Step, EvalFault<R::Fault>>
+    ensures takes { IfOk result (λ step. (found : Option (List Cell)) × (R.asked rows.new ≡ R.asked rows.old ++ (name.now, found) ∷ []) × Acts (add_effect name.now col found (number_in col found) n) own.old own.new step) }
+    ensures asked { Grew (R.asked rows.old) (R.asked rows.new) }
+    ensures base { R.base rows.new ≡ R.base rows.old }
+    ensures cause { HasReadCause (R.refusals rows.old) (R.refusals rows.new) result }
+{
+    match rows.row(name) {
+        Ok(Some(mut row)) => Ok(add_to(own, name, &mut row, col, n)?),
+        Ok(None) => Ok(Step::Declines),
+        Err(fault) => Err(EvalFault::Read(fault)),
+    }
+}
+
 // Adds to a number of the row, or declines.
 fn add<R: ReadRows>(
     own: &mut Own,
@@ -237,14 +243,17 @@ fn add<R: ReadRows>(
     ensures base { R.base rows.new ≡ R.base rows.old }
     ensures cause { HasReadCause (R.refusals rows.old) (R.refusals rows.new) result }
 {
-    match sum_at(own, rows, name, col, n) {
-        Ok(Some(row)) => Ok(set(own, name, Change::Put(row))?),
-        Ok(None) => Ok(Step::Declines),
-        Err(fault) => Err(EvalFault::Read(fault)),
+    match own.get(name) {
+        Some(change) => {
+            let change = *change;
+            Ok(add_again(own, name, change, col, n)?)
+        }
+        None => add_asked(own, rows, name, col, n),
     }
 }
 
 // Sets the row `to` to what the row `from` is.
+#[inline(never)]
 fn copy<R: ReadRows>(
     own: &mut Own,
     rows: &mut R,
@@ -274,7 +283,7 @@ pub fn perform<R: ReadRows>(
     ensures cause { HasReadCause (R.refusals rows.old) (R.refusals rows.new) result }
 {
     match statement {
-        Statement::Put { name, row } => Ok(set(own, name, Change::Put(*row))?),
+        Statement::Put { name, row } => Ok(put(own, name, row)?),
         Statement::Del { name } => Ok(set(own, name, Change::Gone)?),
         Statement::Need { name, col, rel, n } => need(own, rows, name, *col, *rel, *n),
         Statement::Add { name, col, n } => add(own, rows, name, *col, *n),
