@@ -90,11 +90,7 @@ fn change_to(row: Option<Row>) -> Change
 
 // The number in a column of the row that the reader answers.
 #[inline(never)]
-fn asked_number<R: ReadRows>(
-    rows: &mut R,
-    name: &RowName,
-    col: u8,
-) -> Result<Option<i64>, R::Fault>
+fn asked_number<R: ReadRows>(rows: &mut R, name: &RowName, col: u8) -> Result<Option<i64>, R::Fault>
     ensures answered { IfOk result (λ number. (found : Option (List Cell)) × (R.asked rows.new ≡ R.asked rows.old ++ (name.now, found) ∷ []) × (number ≡ number_in col found)) }
     ensures refused { OnErr result (R.asked rows.new ≡ R.asked rows.old) }
     ensures base { R.base rows.new ≡ R.base rows.old }
@@ -200,7 +196,13 @@ fn add_to(own: &mut Own, name: &RowName, row: &mut Row, col: u8, n: i64) -> Resu
 
 // Adds to a number of the row that this change makes, or declines.
 #[inline(never)]
-fn add_again(own: &mut Own, name: &RowName, change: Change, col: u8, n: i64) -> Result<Step, NoMemory>
+fn add_again(
+    own: &mut Own,
+    name: &RowName,
+    change: Change,
+    col: u8,
+    n: i64,
+) -> Result<Step, NoMemory>
     ensures { IfOk result (λ step. Acts (add_effect name.now col (row_made change) (number_in col (row_made change)) n) own.old own.new step) }
 {
     match change {

@@ -44,7 +44,10 @@ fn may_set(statement: &Statement) -> bool
 fn setting(statements: &[Statement]) -> usize
     ensures { result ≡ length (filter may_set statements.now) }
 {
-    statements.iter().filter(|statement| may_set(statement)).count()
+    statements
+        .iter()
+        .filter(|statement| may_set(statement))
+        .count()
 }
 
 /// Reads a body from top to bottom. A row that it has set itself is not asked for.
