@@ -132,6 +132,7 @@ fn change_of<R: ReadRows>(own: &Own, rows: &mut R, name: &RowName) -> Result<Cha
 }
 
 // Sets a row without a look at any.
+#[inline(always)]
 fn set(own: &mut Own, name: &RowName, change: Change) -> Result<Step, NoMemory>
     ensures { IfOk result (λ step. Acts (sets name.now (row_made change)) own.old own.new step) }
 {
@@ -145,6 +146,14 @@ fn put(own: &mut Own, name: &RowName, row: &Row) -> Result<Step, NoMemory>
     ensures { IfOk result (λ step. Acts (sets name.now (Some row.now)) own.old own.new step) }
 {
     set(own, name, Change::Put(*row))
+}
+
+// Removes a row.
+#[inline(never)]
+fn remove(own: &mut Own, name: &RowName) -> Result<Step, NoMemory>
+    ensures { IfOk result (λ step. Acts (sets name.now None) own.old own.new step) }
+{
+    set(own, name, Change::Gone)
 }
 
 // Declines unless the row's number compares so with `n`.
@@ -286,7 +295,7 @@ pub fn perform<R: ReadRows>(
 {
     match statement {
         Statement::Put { name, row } => Ok(put(own, name, row)?),
-        Statement::Del { name } => Ok(set(own, name, Change::Gone)?),
+        Statement::Del { name } => Ok(remove(own, name)?),
         Statement::Need { name, col, rel, n } => need(own, rows, name, *col, *rel, *n),
         Statement::Add { name, col, n } => add(own, rows, name, *col, *n),
         Statement::Copy { from, to } => copy(own, rows, from, to),
