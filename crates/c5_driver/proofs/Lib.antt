@@ -1,5 +1,5 @@
 pub mod Fronts
 pub mod OneWord
 pub mod Feeding
-pub mod Writing
+pub mod LogRowLemmas
 pub mod Passed

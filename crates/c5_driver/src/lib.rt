@@ -4,6 +4,7 @@
 mod apply;
 mod command;
 mod decoding;
+mod log_rows;
 mod primary;
 mod printing;
 mod refusal;

@@ -108,15 +108,13 @@ pub fn row_in(columns: &[CellType], bytes: &[u8]) -> Row
     requires at_most_eight { length columns.now ≤ 8 }
     ensures { result ≡ cells_of columns.now bytes.now }
 {
-    let mut cells = [Cell::Int(0); 8];
-    let mut rest = bytes;
-    for (column, cell_type) in columns.iter().enumerate() {
-        let (cell, after) = first_cell(*cell_type, rest);
-        cells[column] = cell;
+    let (first, behind) = first_cell(columns[0], bytes);
+    let mut row = Row::one(first);
+    let mut rest = behind;
+    for column in 1..columns.len() {
+        let (cell, after) = first_cell(columns[column], rest);
+        row.push(cell);
         rest = after;
     }
-    match Row::new(&cells[..columns.len()]) {
-        Some(row) => row,
-        None => unreachable!(),
-    }
+    row
 }

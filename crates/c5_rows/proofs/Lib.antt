@@ -1,3 +1,4 @@
 pub mod TableLemmas
 pub mod WriteLemmas
 pub mod RowLemmas
+pub mod ByteOrder

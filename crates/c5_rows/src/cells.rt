@@ -65,9 +65,12 @@ impl Row {
     pub fn one(cell: Cell) -> Self
         ensures { result ≡ cell ∷ [] }
     {
-        let mut cells = [Cell::Int(0); 8];
-        cells[0] = cell;
-        Row { cells, len: 1 }
+        let mut row = Row {
+            cells: [Cell::Int(0); 8],
+            len: 1,
+        };
+        row.cells[0] = cell;
+        row
     }
 
     /// Adds a cell at the end.

@@ -25,9 +25,11 @@ pub struct Applied {
 }
 
 /// Rows by their names: a finite map.
+// A row has a block of its own: the nodes of the tree stay small, and no row moves when one comes or goes.
 #[derive(Debug, Drop)]
 pub struct Rows {
-    rows: BTreeMap<RowName, Row>,
+    alloc: Global,
+    rows: BTreeMap<RowName, Box<Row>>,
 }
 
 impl Model for Rows {
@@ -38,31 +40,39 @@ impl Model for Rows {
     ghost use Rattle.c5_rows.specs.declared.cells.Cell.{Cell};
     ghost use Rattle.c5_rows.specs.Cells.{coded_cell};
     ghost use Rattle.c5_rows.specs.Order.{row_name_cmp, coded_row_name};
+    ghost use Rattle.c5_rows.specs.Boxes.{unboxed};
 
     ghost Value = { map.FinMap row_name_cmp (List Cell) };
 
     ghost coded = { map.code coded_row_name (coded_list coded_cell) };
 
-    ghost view = { λ r. map.from_entries r.rows.entries };
+    ghost view = { λ r. map.from_entries (unboxed r.rows.entries) };
 
     ghost invariant = { λ r. IsOrdered row_name_cmp r.rows };
 }
 
 ghost use Rattle.c5_rows.specs.State.{after_change, after_writes, rows_of};
 ghost use Rattle.c5_rows.specs.Order.{row_name_cmp};
+ghost use Rattle.c5_rows.specs.Boxes.{unboxed};
 ghost use Rattle.std.specs.BTreeMap.{IsOrdered, IsUnchanged};
 
 // Sets a row. One that stands is written over where it lies.
-fn put(rows: &mut BTreeMap<RowName, Row>, name: &RowName, row: &Row) -> Result<(), NoMemory>
+fn put(
+    alloc: Global,
+    rows: &mut BTreeMap<RowName, Box<Row>>,
+    name: &RowName,
+    row: &Row,
+) -> Result<(), NoMemory>
     requires { IsOrdered row_name_cmp rows.old }
     ensures ordered { IsOrdered row_name_cmp rows.new }
-    ensures ok { OnOk result (map.from_entries {R = row_name_cmp} rows.new.entries ≡ map.insert (map.from_entries rows.old.entries) name.now row.now) }
+    ensures ok { OnOk result (map.from_entries {R = row_name_cmp} (unboxed rows.new.entries) ≡ map.insert (map.from_entries (unboxed rows.old.entries)) name.now row.now) }
     ensures err { OnErr result (IsUnchanged rows.old rows.new) }
 {
     match rows.get_mut(name) {
-        Some(old) => *old = *row,
+        Some(old) => **old = *row,
         None => {
-            rows.insert(*name, *row)?;
+            let block = Box::new(alloc, *row)?;
+            rows.insert(*name, block)?;
         }
     }
     Ok(())
@@ -74,6 +84,7 @@ impl Rows {
         ensures { result ≡ map.empty }
     {
         Rows {
+            alloc,
             rows: BTreeMap::new(alloc),
         }
     }
@@ -82,7 +93,10 @@ impl Rows {
     pub fn get(&self, name: &RowName) -> Option<&Row>
         ensures { option_copied result ≡ map.get self.now name.now }
     {
-        self.rows.get(name)
+        match self.rows.get(name) {
+            Some(row) => Some(&**row),
+            None => None,
+        }
     }
 
     /// The number of rows.
@@ -100,7 +114,7 @@ impl Rows {
         for (name, row) in self.rows.iter() {
             list.push(RowEntry {
                 name: *name,
-                row: *row,
+                row: **row,
             })?;
         }
         Ok(list)
@@ -111,6 +125,7 @@ impl Rows {
         ensures { IfOk result (λ copy. copy ≡ self.now) }
     {
         Ok(Rows {
+            alloc: self.alloc,
             rows: self.rows.clone()?,
         })
     }
@@ -121,7 +136,7 @@ impl Rows {
         ensures err { OnErr result (self.new ≡ self.old) }
     {
         match change {
-            Change::Put(row) => put(&mut self.rows, name, row),
+            Change::Put(row) => put(self.alloc, &mut self.rows, name, row),
             Change::Gone => {
                 self.rows.remove(name);
                 Ok(())

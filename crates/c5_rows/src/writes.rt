@@ -76,6 +76,7 @@ fn place_of(writes: &[Write], name: &RowName) -> Result<usize, usize>
 }
 
 // Adds an item before the one that stands here, or at the end.
+#[inline(always)]
 fn add_at<T: Drop>(items: &mut Vec<T>, at: usize, item: T) -> Result<(), NoMemory>
     requires { at ≤ length items.old.items }
     ensures ok { OnOk result (items.new.items ≡ insert items.old.items at item) }
@@ -90,15 +91,16 @@ fn add_at<T: Drop>(items: &mut Vec<T>, at: usize, item: T) -> Result<(), NoMemor
 }
 
 // Puts a write in its place.
-fn put(writes: &mut Vec<Write>, write: Write) -> Result<(), NoMemory>
+#[inline(always)]
+fn put(writes: &mut Vec<Write>, name: RowName, change: Change) -> Result<(), NoMemory>
     requires { IsAscending writes.old.items }
-    ensures ok { OnOk result (writes.new.items ≡ put_write write writes.old.items) }
+    ensures ok { OnOk result (writes.new.items ≡ put_write (record { name = name; change = change }) writes.old.items) }
     ensures err { OnErr result (writes.new.items ≡ writes.old.items) }
     ensures ascending { IsAscending writes.new.items }
 {
-    match place_of(writes, &write.name) {
-        Ok(at) => writes[at] = write,
-        Err(at) => add_at(writes, at, write)?,
+    match place_of(writes, &name) {
+        Ok(at) => writes[at] = Write { name, change },
+        Err(at) => add_at(writes, at, Write { name, change })?,
     }
     Ok(())
 }
@@ -137,7 +139,7 @@ impl Writes {
         ensures ok { OnOk result (self.new ≡ put_write (record { name = name; change = change }) self.old) }
         ensures err { OnErr result (self.new ≡ self.old) }
     {
-        put(&mut self.writes, Write { name, change })
+        put(&mut self.writes, name, change)
     }
 
     /// The change of the row of this name; `None` exactly where no write has the name.

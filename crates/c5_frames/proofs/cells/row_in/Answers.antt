@@ -1,12 +1,28 @@
-use Rattle.std.proofs.Common.{◌≡◌, ◌<◌, ◌∙◌, ◌∷◌, ◌++◌, [], List, refl, sym, ap, length, take, arith}
-use Rattle.std.proofs.lemmas.List.{length-set, take_all, take_more_set}
+use Rattle.std.proofs.Common.{◌≡◌, ◌∙◌, ◌∷◌, ◌++◌, [], List, sym, ap, arith, take_all}
 use Rattle.c5_rows.specs.declared.cells.Cell.{Cell}
 use Rattle.c5_frames.specs.Refs.{cells_of}
-use Rattle.c5_frames.proofs.RefLemmas.{row-cells, row-length, next-cell, next-read, take-next, is_chosen}
+use Rattle.c5_frames.proofs.RefLemmas.{row-length, row-start, next-cell, next-read, take-next}
 use Rattle.c5_frames.proofs.cells.row_in.Goals as goal
 
+pub first_cell-first-requires : goal.first_cell-first-requires
+first_cell-first-requires c =
+    let columns = c.args.columns.now in
+    let bytes = c.args.bytes.now in
+    let n = next-cell columns 0 _ bytes (cells_of columns bytes) c.requires.some (row-start columns bytes c.requires.row) in
+    ((n.cell, n.after), n.read)
+
 pub loop-column-init : goal.loop-column-init
-loop-column-init c = record { full = refl; left = row-cells _ _ _ c.requires.row; built = refl }
+loop-column-init c =
+    let columns = c.args.columns.now in
+    let bytes = c.args.bytes.now in
+    let total = cells_of columns bytes in
+    let cell = c.first_cell-first.result.0 in
+    let n = next-read columns 0 _ bytes c.first_cell-first.result.1.now cell total c.requires.some (row-start columns bytes c.requires.row) c.first_cell-first.ensures in
+    record {
+      some = omega arith;
+      left = n.1;
+      built = c.one-row.ensures ∙ sym (take-next total 0 cell _ n.0);
+    }
 
 pub first_cell-cell-requires : goal.first_cell-cell-requires
 first_cell-cell-requires c =
@@ -20,21 +36,14 @@ loop-column-preserved c =
     let cell = c.first_cell-cell.result.0 in
     let so_far = c.loop-column.invariant in
     let n = next-read c.args.columns.now i _ c.loop-column.rest.now c.first_cell-cell.result.1.now cell total c.loop-column-test.true so_far.left c.first_cell-cell.ensures in
-    let room : i < length c.loop-column.cells = omega (arith, so_far.full, c.requires.at_most_eight) in
     record {
-      full = length-set c.loop-column.cells i cell ∙ so_far.full;
+      some = omega arith;
       left = n.1;
-      built = take_more_set c.loop-column.cells i cell room ∙ ap (λ (front : List Cell). front ++ cell ∷ []) so_far.built ∙ sym (take-next total i cell _ n.0);
+      built = c.push.ensures ∙ ap (λ (front : List Cell). front ++ cell ∷ []) so_far.built ∙ sym (take-next total i cell _ n.0);
     }
 
 pub returns : goal.returns
 returns c =
-    let columns = c.args.columns.now in
-    let total = cells_of columns c.args.bytes.now in
-    let size = row-length columns c.args.bytes.now c.requires.row in
-    let count : length columns ≡ c.loop-column.column = omega arith in
-    let row : c.in-Some.row ≡ take (length columns) c.loop-column.cells = is_chosen _ _ _ c.in-Some.ensures in
-    row
-    ∙ ap (λ n. take n c.loop-column.cells) count
-    ∙ c.loop-column.invariant.built
-    ∙ take_all c.loop-column.column total (omega (arith, size))
+    let total = cells_of c.args.columns.now c.args.bytes.now in
+    let size = row-length c.args.columns.now c.args.bytes.now c.requires.row in
+    c.loop-column.invariant.built ∙ take_all c.loop-column.column total (omega (arith, size))

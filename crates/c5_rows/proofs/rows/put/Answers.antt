@@ -1,13 +1,20 @@
-use Rattle.std.proofs.Common.{refl}
-use Rattle.c5_rows.proofs.RowLemmas.{one_set}
+use Rattle.std.proofs.Common.{◌≡◌, List, refl, ap, ◌∙◌}
+use Rattle.std.specs.FinMap as map
+use Rattle.std.specs.Box.{with_value}
+use Rattle.c5_rows.specs.declared.cells.Cell.{Cell}
+use Rattle.c5_rows.specs.Boxes.{unboxed}
+use Rattle.c5_rows.specs.Order.{row_name_cmp}
+use Rattle.c5_rows.proofs.RowLemmas.{box_set}
 use Rattle.c5_rows.proofs.rows.put.Goals as goal
 
 pub returns-in-Some-clause-ok : goal.returns-in-Some-clause-ok
 returns-in-Some-clause-ok c =
-    one_set c.args.rows.now.entries (c.get_mut.follows.lender c.args.row.now).entries c.args.name.now c.args.row.now
-    ((c.get_mut.follows.holds c.args.row.now).3 (rw (← c.in-Some.ensures.value) refl)).0
+    let written = with_value c.in-Some.old.now c.args.row.now in
+    box_set c.args.rows.now.entries (c.get_mut.follows.lender written).entries c.args.name.now written
+    ((c.get_mut.follows.holds written).3 (rw (← c.in-Some.ensures.value) refl)).0
 
 pub returns-in_ok-insert-in-None-clause-ok : goal.returns-in_ok-insert-in-None-clause-ok
 returns-in_ok-insert-in-None-clause-ok c =
-    one_set c.args.rows.now.entries c.insert.new.self.entries c.args.name.now c.args.row.now
+    box_set c.args.rows.now.entries c.insert.new.self.entries c.args.name.now c.in_ok-block-in-None.block
     (rw (← c.get_mut.follows.holds-at-none) c.in_ok-insert-in-None.ensures.updates.0)
+    ∙ ap (λ (row : List Cell). map.insert (map.from_entries {R = row_name_cmp} (unboxed c.args.rows.now.entries)) c.args.name.now row) c.in_ok-block-in-None.ensures.ok
