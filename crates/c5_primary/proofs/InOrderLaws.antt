@@ -1,5 +1,5 @@
 -- Bodies that run in the order of their numbers make a serial run, and a lawful log.
-use Rattle.std.proofs.Common.{◌≡◌, ◌≤◌, ◌<◌, ◌+◌, ◌-◌, ◌^◌, ◌∙◌, ℕ, zero, suc, Option, Some, None, List, [], ◌∷◌, ◌++◌, length, map, get_or, drop, refl, ap, sym, subst, arith}
+use Rattle.std.proofs.Common.{◌≡◌, ◌≤◌, ◌<◌, ◌+◌, ◌-◌, ◌^◌, ◌∙◌, ℕ, zero, suc, Option, Some, None, List, [], ◌∷◌, ◌++◌, length, map, get_or, drop, append_assoc, refl, ap, sym, subst, arith}
 use Rattle.std.specs.FinMap.{empty}
 use Rattle.std.specs.List.{All, AllByRecursion, AllZip, range_with_len, sum_by, filter_map, cons_option}
 use Rattle.std.specs.List.Sorted.{IsPermutation}
@@ -9,7 +9,8 @@ use Rattle.std.proofs.lemmas.List.FromFn.{length-range_with_len}
 use Rattle.std.proofs.lemmas.List.Sorted.{IsPermutation-refl}
 use Rattle.std.proofs.lemmas.List.Sums.{sum_by-cons}
 use Rattle.c5_rows.specs.Order.{row_name_cmp}
-use Rattle.c5_rows.specs.State.{State, after_writes}
+use Rattle.std.proofs.Math.Seq.{drop-cons}
+use Rattle.c5_rows.specs.State.{State, after_writes, after_txns}
 use Rattle.c5_rows.specs.declared.tables.TableDef.{TableDef}
 use Rattle.c5_rows.specs.declared.writes.RowName.{RowName}
 use Rattle.c5_rows.specs.declared.writes.Txn.{Txn}
@@ -24,6 +25,7 @@ use Rattle.c5_definitions.specs.SerialRun.{body_at, ran, run_from, run, script_n
 use Rattle.c5_primary.proofs.EvalFits.{StateFits-empty, StateFits-after_writes, eval-lawful}
 use Rattle.c5_primary.proofs.EvalCounts.{eval-count}
 use Rattle.c5_primary.proofs.EvalOrder.{eval-ascending}
+use Rattle.c5_primary.proofs.LatestLaws.{after_txns-push}
 use Rattle.c5_primary.specs.InOrder.{in_order}
 
 -- ---- bodies by their numbers
@@ -55,6 +57,24 @@ run-in_order all (body ∷ rest) n state e =
     let left = run-in_order all rest (n + 1) (after_writes (eval body state).writes state) later in
     ap (λ (txns : List Txn). ran n (n + 1) body state ∷ txns) left
     ∙ ap (λ (b : List Statement). ran n (n + 1) b state ∷ run_from (n + 1 + 1) all (after_writes (eval b state).writes state) (range_with_len (n + 1) (length rest))) (sym here.0)
+
+-- before the first transaction all are to come
+pub all-to-come : (bodies : List (List Statement)) (txns : List Txn) → txns ≡ [] → txns ++ in_order 0 bodies (after_txns txns (empty {R = row_name_cmp})) ≡ in_order 0 bodies (empty {R = row_name_cmp})
+all-to-come bodies txns none = rw none refl
+
+-- one more transaction, and those that are still to come
+pub one-more : (bodies : List (List Statement)) (n : ℕ) (d : List Statement) (txns all : List Txn) (txn : Txn) → n < length bodies → txn ≡ ran n (n + 1) (get_or bodies n d) (after_txns txns (empty {R = row_name_cmp})) →
+    txns ++ in_order n (drop n bodies) (after_txns txns (empty {R = row_name_cmp})) ≡ all → (txns ++ txn ∷ []) ++ in_order (n + 1) (drop (n + 1) bodies) (after_txns (txns ++ txn ∷ []) (empty {R = row_name_cmp})) ≡ all
+one-more bodies n d txns all txn lt is so_far =
+    let state : State = after_txns txns (empty {R = row_name_cmp}) in
+    let next : n + 1 ≡ suc n = omega arith in
+    let rest = drop (n + 1) bodies in
+    let here : drop n bodies ≡ get_or bodies n d ∷ rest = drop-cons bodies n d lt ∙ ap (λ (m : ℕ). get_or bodies n d ∷ drop m bodies) (sym next) in
+    ap (λ (s : State). (txns ++ txn ∷ []) ++ in_order (n + 1) rest s) (after_txns-push txns txn (empty {R = row_name_cmp}))
+    ∙ append_assoc txns (txn ∷ []) (in_order (n + 1) rest (after_writes txn.writes state))
+    ∙ ap (λ (t : Txn). txns ++ t ∷ in_order (n + 1) rest (after_writes t.writes state)) is
+    ∙ ap (λ (bs : List (List Statement)). txns ++ in_order n bs state) (sym here)
+    ∙ so_far
 
 -- ---- serial runs
 

@@ -1,25 +1,35 @@
 //! The bodies of a script, one after the other.
 
-ghost use Rattle.std.specs.Prelude.{◌≡◌, ◌≤◌, ◌<◌, ◌+◌, ◌^◌, length, IfOk, OnOk};
+ghost use Rattle.std.specs.Prelude.{◌≡◌, ◌≤◌, ◌<◌, ◌+◌, ◌^◌, length, IfOk};
 ghost use Rattle.std.specs.FinMap.{empty};
 ghost use Rattle.std.specs.List.{All, range_with_len, sum_by};
 ghost use Rattle.c5_rows.specs.Order.{row_name_cmp};
-ghost use Rattle.c5_rows.specs.State.{after_writes};
+ghost use Rattle.c5_rows.specs.State.{after_txns};
 ghost use Rattle.c5_definitions.specs.Lawful.{IsLawful};
 ghost use Rattle.c5_definitions.specs.Limits.{write_statements};
 ghost use Rattle.c5_definitions.specs.SerialRun.{ran, run, SerialRun};
 ghost use Rattle.c5_primary.specs.InOrder.{in_order};
+ghost use Rattle.c5_primary.specs.Latest.{LeadsToRows};
 
-use c5_eval::evaluate_rows;
-use c5_rows::{NoMemory, Rows, Txn};
+use crate::latest::note_writes;
+use crate::reader::evaluate_after;
+use c5_rows::{NoMemory, RowName, Txn};
 use c5_script::{Body, Script};
 use std::alloc::Global;
+use std::collections::BTreeMap;
 
-// The transaction that the body of this number makes on the rows.
-fn ran(alloc: Global, number: u32, body: &Body, rows: &Rows) -> Result<Txn, NoMemory>
-    ensures { IfOk result (λ txn. txn ≡ ran number (number + 1) body.now rows.now) }
+// The transaction that the body of this number makes on the rows after the others.
+fn ran(
+    alloc: Global,
+    number: u32,
+    body: &Body,
+    txns: &[Txn],
+    places: &BTreeMap<RowName, u32>,
+) -> Result<Txn, NoMemory>
+    requires { LeadsToRows txns.now places.now.entries }
+    ensures { IfOk result (λ txn. txn ≡ ran number (number + 1) body.now (after_txns txns.now (empty {R = row_name_cmp}))) }
 {
-    let outcome = evaluate_rows(alloc, body, rows)?;
+    let outcome = evaluate_after(alloc, body, txns, places)?;
     Ok(Txn {
         script: number,
         stamp: number as u64 + 1,
@@ -27,26 +37,16 @@ fn ran(alloc: Global, number: u32, body: &Body, rows: &Rows) -> Result<Txn, NoMe
     })
 }
 
-// Makes the changes of the transaction.
-fn apply(rows: &mut Rows, txn: &Txn) -> Result<(), NoMemory>
-    ensures { OnOk result (rows.new ≡ after_writes txn.now.writes rows.old) }
-{
-    match rows.apply(txn) {
-        Ok(()) => Ok(()),
-        Err(_) => Err(NoMemory),
-    }
-}
-
 // The transactions of all bodies, in the order of their numbers.
 fn ran_in_order(alloc: Global, bodies: &[Body]) -> Result<Vec<Txn>, NoMemory>
     requires { length bodies.now ≤ 65536 }
     ensures { IfOk result (λ txns. txns.items ≡ in_order 0 bodies.now (empty {R = row_name_cmp})) }
 {
-    let mut rows = Rows::new(alloc);
+    let mut places = BTreeMap::new(alloc);
     let mut txns = Vec::with_capacity(alloc, bodies.len())?;
     for (number, body) in bodies.iter().enumerate() {
-        let txn = ran(alloc, number as u32, body, &rows)?;
-        apply(&mut rows, &txn)?;
+        let txn = ran(alloc, number as u32, body, &txns, &places)?;
+        note_writes(&mut places, txn.writes.as_slice(), number as u32)?;
         txns.push(txn)?;
     }
     Ok(txns)

@@ -1,9 +1,17 @@
-use Rattle.std.proofs.Common.{◌≡◌, ◌++◌, drop}
+use Rattle.std.proofs.Common.{◌≡◌, ◌++◌, drop, length}
 use Rattle.std.specs.FinMap.{empty}
+use Rattle.std.specs.BTreeMap.{IsOrdered}
 use Rattle.c5_rows.specs.Order.{row_name_cmp}
+use Rattle.c5_rows.specs.State.{after_txns}
 use Rattle.c5_primary.specs.InOrder.{in_order}
+use Rattle.c5_primary.specs.Latest.{LeadsToRows}
 use Rattle.c5_primary.proofs.serial.ran_in_order.Given as goal
 
--- with those of the bodies that are left the transactions are all
+-- the places lead to the rows after the transactions so far, and with those of the bodies that are left these are all
 abbrev pub invariant-loop-number : goal.invariant-loop-number
-invariant-loop-number l = l.txns.items ++ in_order l.number (drop l.number l.bodies) l.rows ≡ in_order 0 l.bodies (empty {R = row_name_cmp})
+invariant-loop-number l = record {
+  count : length l.txns.items ≡ l.number;
+  ordered : IsOrdered row_name_cmp l.places;
+  leads : LeadsToRows l.txns.items l.places.entries;
+  all : l.txns.items ++ in_order l.number (drop l.number l.bodies) (after_txns l.txns.items (empty {R = row_name_cmp})) ≡ in_order 0 l.bodies (empty {R = row_name_cmp});
+}
