@@ -15,7 +15,7 @@ use Rattle.c5_definitions.specs.declared.script.Statement.{Statement}
 use Rattle.c5_definitions.specs.Effects.{declines, keeps, sets, needed, effect_of}
 use Rattle.c5_definitions.specs.Eval.{Progress, change_to, write_of, row_in, set_row, run, ending_of, eval}
 use Rattle.c5_definitions.specs.Follows.{Read, Own, AnsweredBy, Finds, FollowsFrom, Follows, own_writes}
-use Rattle.c5_eval.specs.Reader.{ReaderState}
+use Rattle.c5_eval.specs.Reader.{ReaderState, answers_to}
 
 -- the row that was set, or else the other one
 abbrev set_or : Option (Option (List Cell)) → Option (List Cell) → Option (List Cell)
@@ -138,6 +138,11 @@ follows_on (statement ∷ statements) start own p reads declined writes m answer
 pub follows_eval : (body : List Statement) (start : State) (reads : List Read) (declined : Bool) (writes : List Write) → Follows body reads declined writes → AnsweredBy start reads → eval body start ≡ record { declined = declined; writes = writes }
 unfolding eval
 follows_eval body start reads declined writes h answered = follows_on body start empty (record { state = start; noted = empty }) reads declined writes (start_matches start) answered h
+
+-- what a state answers to names
+pub answers_answered : (state : State) (names : List RowName) → AnsweredBy state (answers_to state names)
+answers_answered state [] = tt
+answers_answered state (name ∷ names) = (refl, answers_answered state names)
 
 -- what was asked of a reader that began with nothing is answered by its rows
 pub answered_in : (start : State) (first now : ReaderState) (reads : List Read) → first ≡ record { base = start; asked = []; refusals = 0 } → now.base ≡ first.base → now.asked ≡ first.asked ++ reads → AnsweredBy now.base now.asked → AnsweredBy start reads

@@ -6,3 +6,4 @@ pub mod Refusals
 pub mod Faults
 pub mod Stepping
 pub mod Reader
+pub mod Setting

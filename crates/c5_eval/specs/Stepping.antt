@@ -1,7 +1,8 @@
 -- What one statement leaves of the rows that a body has set.
-use Rattle.std.specs.Prelude.{◌≡◌, List, [], Option, Some, None}
+use Rattle.std.specs.Prelude.{◌≡◌, ℕ, ℤ, List, [], Option, Some, None, slice_set}
 use Rattle.std.specs.FinMap.{insert}
 use Rattle.c5_rows.specs.declared.cells.Cell.{Cell}
+use Rattle.c5_rows.specs.declared.cells.Cell.TheVariants.{Int}
 use Rattle.c5_rows.specs.declared.writes.RowName.{RowName}
 use Rattle.c5_definitions.specs.declared.script.Statement.{Statement}
 use Rattle.c5_definitions.specs.Effects.{Effect, declines, keeps, sets, needed, effect_of}
@@ -20,7 +21,7 @@ abbrev pub Takes : Statement → Own → Own → List Read → Step → Type 0
 Takes statement own after reads step =
     (found : Option (List Cell)) × Finds (needed statement) own reads found [] × Acts (effect_of statement found) own after step
 
--- the row is set where there is one; else the statement declines
-abbrev pub set_or_declined : RowName → Option (List Cell) → Effect
-set_or_declined name None = declines
-set_or_declined name (Some row) = sets name (Some row)
+-- the row is set with another number in a column where there is one; else the statement declines
+abbrev pub set_cell_or_declined : RowName → List Cell → ℕ → Option ℤ → Effect
+set_cell_or_declined name row col None = declines
+set_cell_or_declined name row col (Some sum) = sets name (Some (slice_set row col (Int sum)))

@@ -18,41 +18,28 @@ use std::marker::Model;
 #[derive(Drop)]
 pub struct RowsReader<'a> {
     rows: &'a Rows,
-    asked: Vec<(RowName, Option<Row>)>,
+    // The rows never change, so the names say what was answered too.
+    asked: Vec<RowName>,
     refusals: u64,
 }
 
 impl<'a> Model for RowsReader<'a> {
-    ghost use Rattle.c5_eval.specs.Reader.{ReaderState, reader_code};
-    ghost use Rattle.c5_definitions.specs.Follows.{AnsweredBy};
+    ghost use Rattle.c5_eval.specs.Reader.{ReaderState, reader_code, answers_to};
 
     ghost Value = { ReaderState };
 
     ghost coded = { reader_code };
 
-    ghost view = { λ r. record { base = r.rows.now; asked = r.asked.items; refusals = r.refusals } };
-
-    ghost invariant = { λ r. AnsweredBy r.rows.now r.asked.items };
+    ghost view = { λ r. record { base = r.rows.now; asked = answers_to r.rows.now r.asked.items; refusals = r.refusals } };
 }
 
-// Keeps what was asked and answered.
-fn note(
-    asked: &mut Vec<(RowName, Option<Row>)>,
-    name: &RowName,
-    row: &Option<Row>,
-) -> Result<(), NoMemory>
-    ensures ok { OnOk result (asked.new.items ≡ asked.old.items ++ (name.now, row.now) ∷ []) }
+// Keeps what was asked.
+fn note(asked: &mut Vec<RowName>, name: &RowName) -> Result<(), NoMemory>
+    ensures ok { OnOk result (asked.new.items ≡ asked.old.items ++ name.now ∷ []) }
     ensures err { OnErr result (asked.new.items ≡ asked.old.items) }
 {
-    asked.push((*name, *row))?;
+    asked.push(*name)?;
     Ok(())
-}
-
-// The row of a name, as a value.
-fn row_of(rows: &Rows, name: &RowName) -> Option<Row>
-    ensures { result ≡ map.get rows.now name.now }
-{
-    rows.get(name).copied()
 }
 
 impl<'a> RowsReader<'a> {
@@ -87,18 +74,19 @@ impl ReadRows for RowsReader<'_> {
     ghost refusals = { λ r. r.refusals };
 
     fn row(&mut self, name: &RowName) -> Result<Option<Row>, NoMemory> {
-        let row = row_of(self.rows, name);
-        match note(&mut self.asked, name, &row) {
-            Ok(()) => Ok(row),
-            Err(_) => {
-                self.refusals = self.refusals.saturating_add(1);
-                Err(NoMemory)
-            }
+        if note(&mut self.asked, name).is_err() {
+            self.refusals = self.refusals.saturating_add(1);
+            return Err(NoMemory);
+        }
+        match self.rows.get(name) {
+            Some(row) => Ok(Some(*row)),
+            None => Ok(None),
         }
     }
 }
 
 /// What a body does on these rows.
+#[inline(never)]
 pub fn evaluate_rows(alloc: Global, body: &Body, rows: &Rows) -> Result<Outcome, NoMemory>
     ensures declined { IfOk result (λ outcome. outcome.declined ≡ (eval body.now rows.now).declined) }
     ensures writes { IfOk result (λ outcome. outcome.writes ≡ (eval body.now rows.now).writes) }

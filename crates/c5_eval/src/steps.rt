@@ -1,16 +1,19 @@
 //! Single statements.
 
-ghost use Rattle.std.specs.Prelude.{◌≡◌, ◌++◌, List, Option, Some, None, [], IfOk, OnErr, if◌then◌else◌};
+ghost use Rattle.std.specs.Prelude.{◌≡◌, ◌<◌, length, MatchOption, ◌++◌, ◌∷◌, List, Option, Some, None, [], IfOk, OnErr, if◌then◌else◌};
+ghost use Rattle.c5_definitions.specs.Eval.{change_to};
 ghost use Rattle.c5_definitions.specs.Effects.{number_in, compares, add_effect, need_effect, keeps, declines, sets};
 ghost use Rattle.c5_definitions.specs.Follows.{Read, Finds};
+ghost use Rattle.c5_rows.specs.declared.cells.Cell.{Cell};
 ghost use Rattle.c5_rows.specs.declared.writes.RowName.{RowName};
 ghost use Rattle.c5_eval.specs.Refusals.{HasCause};
 ghost use Rattle.c5_eval.specs.Faults.{HasReadCause, Grew};
-ghost use Rattle.c5_eval.specs.Stepping.{Acts, Takes, set_or_declined};
+ghost use Rattle.c5_eval.specs.Setting.{row_made};
+ghost use Rattle.c5_eval.specs.Stepping.{Acts, Takes, set_cell_or_declined};
 
 use crate::own::Own;
 use crate::reading::{EvalFault, ReadRows};
-use c5_rows::{Cell, NoMemory, Row, RowName};
+use c5_rows::{Cell, Change, NoMemory, Row, RowName};
 use c5_script::{Rel, Statement};
 
 /// What follows on a statement.
@@ -22,16 +25,33 @@ pub enum Step {
     Declines,
 }
 
+// The number in a column of a row; `None` where there is none.
+fn number_of(row: &Row, col: u8) -> Option<i64>
+    ensures { result ≡ number_in col (Some row.now) }
+{
+    match row.cells().get(col as usize) {
+        Some(Cell::Int(n)) => Some(*n),
+        Some(Cell::Txt(_)) | None => None,
+    }
+}
+
 /// The number in a column of a row that may be absent; `None` where there is none.
 pub fn number_in(row: &Option<Row>, col: u8) -> Option<i64>
     ensures { result ≡ number_in col row.now }
 {
-    let Some(row) = row else {
-        return None;
-    };
-    match row.cells().get(col as usize) {
-        Some(Cell::Int(n)) => Some(*n),
-        Some(Cell::Txt(_)) | None => None,
+    match row {
+        Some(row) => number_of(row, col),
+        None => None,
+    }
+}
+
+// The number in a column of the row that a change makes; `None` where there is none.
+fn number_made(change: &Change, col: u8) -> Option<i64>
+    ensures { result ≡ number_in col (row_made change.now) }
+{
+    match change {
+        Change::Put(row) => number_of(row, col),
+        Change::Gone => None,
     }
 }
 
@@ -48,60 +68,96 @@ fn compares(rel: Rel, a: i64, b: i64) -> bool
     }
 }
 
-// Whether the row is there and its number compares so with `n`.
-fn meets(found: &Option<Row>, col: u8, rel: Rel, n: i64) -> bool
-    ensures { need_effect (number_in col found.now) rel n ≡ (if result then keeps else declines) }
+// Whether there is a number and it compares so with `n`.
+fn meets(number: Option<i64>, rel: Rel, n: i64) -> bool
+    ensures { need_effect number rel n ≡ (if result then keeps else declines) }
 {
-    match number_in(found, col) {
+    match number {
         Some(cell) => compares(rel, cell, n),
         None => false,
     }
 }
 
-// The row with `n` added in its column; `None` where there is no number, or the sum is no i64.
-fn added(found: &Option<Row>, col: u8, n: i64) -> Option<Row>
-    ensures { (name : RowName) → add_effect name col found.now (number_in col found.now) n ≡ set_or_declined name result }
+// The change that makes a row this one.
+fn change_to(row: Option<Row>) -> Change
+    ensures { result ≡ change_to row }
 {
-    let cell = number_in(found, col)?;
-    let Some(row) = found else {
-        return None;
-    };
-    let sum = cell.checked_add(n)?;
-    Some(row.with(col, Cell::Int(sum)))
+    match row {
+        Some(row) => Change::Put(row),
+        None => Change::Gone,
+    }
 }
 
-// The row as the body has set it, or else as the reader answers.
-fn row_of<R: ReadRows>(own: &Own, rows: &mut R, name: &RowName) -> Result<Option<Row>, R::Fault>
-    ensures found { IfOk result (λ found. (reads : List Read) × (R.asked rows.new ≡ R.asked rows.old ++ reads) × Finds (Some name.now) own.now reads found []) }
+// The number in a column of the row that the reader answers.
+#[inline(never)]
+fn asked_number<R: ReadRows>(rows: &mut R, name: &RowName, col: u8) -> Result<Option<i64>, R::Fault>
+    ensures answered { IfOk result (λ number. (found : Option (List Cell)) × (R.asked rows.new ≡ R.asked rows.old ++ (name.now, found) ∷ []) × (number ≡ number_in col found)) }
+    ensures refused { OnErr result (R.asked rows.new ≡ R.asked rows.old) }
+    ensures base { R.base rows.new ≡ R.base rows.old }
+    ensures cause { HasCause (R.refusals rows.old) (R.refusals rows.new) result }
+{
+    let found = rows.row(name)?;
+    Ok(number_in(&found, col))
+}
+
+// The number in a column of the row as the body has set it, or else as the reader answers.
+fn number_at<R: ReadRows>(
+    own: &Own,
+    rows: &mut R,
+    name: &RowName,
+    col: u8,
+) -> Result<Option<i64>, R::Fault>
+    ensures found { IfOk result (λ number. (reads : List Read) × (R.asked rows.new ≡ R.asked rows.old ++ reads) × (found : Option (List Cell)) × Finds (Some name.now) own.now reads found [] × (number ≡ number_in col found)) }
     ensures refused { OnErr result (R.asked rows.new ≡ R.asked rows.old) }
     ensures base { R.base rows.new ≡ R.base rows.old }
     ensures cause { HasCause (R.refusals rows.old) (R.refusals rows.new) result }
 {
     match own.get(name) {
-        Some(row) => Ok(*row),
-        None => rows.row(name),
+        Some(change) => Ok(number_made(change, col)),
+        None => asked_number(rows, name, col),
+    }
+}
+
+// What the row as the body has set it, or else as the reader answers, becomes.
+fn change_of<R: ReadRows>(own: &Own, rows: &mut R, name: &RowName) -> Result<Change, R::Fault>
+    ensures found { IfOk result (λ change. (reads : List Read) × (R.asked rows.new ≡ R.asked rows.old ++ reads) × Finds (Some name.now) own.now reads (row_made change) []) }
+    ensures refused { OnErr result (R.asked rows.new ≡ R.asked rows.old) }
+    ensures base { R.base rows.new ≡ R.base rows.old }
+    ensures cause { HasCause (R.refusals rows.old) (R.refusals rows.new) result }
+{
+    match own.get(name) {
+        Some(change) => Ok(*change),
+        None => Ok(change_to(rows.row(name)?)),
     }
 }
 
 // Sets a row without a look at any.
-fn set(own: &mut Own, name: RowName, row: Option<Row>) -> Result<Step, NoMemory>
-    ensures { IfOk result (λ step. Acts (sets name row) own.old own.new step) }
+#[inline(always)]
+fn set(own: &mut Own, name: &RowName, change: Change) -> Result<Step, NoMemory>
+    ensures { IfOk result (λ step. Acts (sets name.now (row_made change)) own.old own.new step) }
 {
-    own.set(name, row)?;
+    own.set(name, change)?;
     Ok(Step::GoesOn)
 }
 
-// Sets a row where there is one, and declines otherwise.
-fn set_or_decline(own: &mut Own, name: RowName, row: Option<Row>) -> Result<Step, NoMemory>
-    ensures { IfOk result (λ step. Acts (set_or_declined name row) own.old own.new step) }
+// Sets a row to this one.
+#[inline(never)]
+fn put(own: &mut Own, name: &RowName, row: &Row) -> Result<Step, NoMemory>
+    ensures { IfOk result (λ step. Acts (sets name.now (Some row.now)) own.old own.new step) }
 {
-    match row {
-        Some(row) => set(own, name, Some(row)),
-        None => Ok(Step::Declines),
-    }
+    set(own, name, Change::Put(*row))
+}
+
+// Removes a row.
+#[inline(never)]
+fn remove(own: &mut Own, name: &RowName) -> Result<Step, NoMemory>
+    ensures { IfOk result (λ step. Acts (sets name.now None) own.old own.new step) }
+{
+    set(own, name, Change::Gone)
 }
 
 // Declines unless the row's number compares so with `n`.
+#[inline(never)]
 fn need<R: ReadRows>(
     own: &mut Own,
     rows: &mut R,
@@ -115,14 +171,73 @@ fn need<R: ReadRows>(
     ensures base { R.base rows.new ≡ R.base rows.old }
     ensures cause { HasReadCause (R.refusals rows.old) (R.refusals rows.new) result }
 {
-    let found = match row_of(own, rows, name) {
-        Ok(found) => found,
+    let number = match number_at(own, rows, name, col) {
+        Ok(number) => number,
         Err(fault) => return Err(EvalFault::Read(fault)),
     };
-    if meets(&found, col, rel, n) {
+    if meets(number, rel, n) {
         Ok(Step::GoesOn)
     } else {
         Ok(Step::Declines)
+    }
+}
+
+// The number in the column with `n` added; `None` where there is no number, or the sum is no i64.
+fn sum_of(row: &Row, col: u8, n: i64) -> Option<i64>
+    ensures effect { (name : RowName) → add_effect name col (Some row.now) (number_in col (Some row.now)) n ≡ set_cell_or_declined name row.now col result }
+    ensures within { MatchOption result (Unit {0}) (λ _. col < length row.now) }
+{
+    number_of(row, col)?.checked_add(n)
+}
+
+// Adds to a number of this row and sets it so, or declines.
+fn add_to(own: &mut Own, name: &RowName, row: &mut Row, col: u8, n: i64) -> Result<Step, NoMemory>
+    ensures { IfOk result (λ step. Acts (add_effect name.now col (Some row.old) (number_in col (Some row.old)) n) own.old own.new step) }
+{
+    match sum_of(row, col, n) {
+        Some(sum) => {
+            row.set(col, Cell::Int(sum));
+            put(own, name, row)
+        }
+        None => Ok(Step::Declines),
+    }
+}
+
+// Adds to a number of the row that this change makes, or declines.
+#[inline(never)]
+fn add_again(
+    own: &mut Own,
+    name: &RowName,
+    change: Change,
+    col: u8,
+    n: i64,
+) -> Result<Step, NoMemory>
+    ensures { IfOk result (λ step. Acts (add_effect name.now col (row_made change) (number_in col (row_made change)) n) own.old own.new step) }
+{
+    match change {
+        Change::Put(mut row) => add_to(own, name, &mut row, col, n),
+        Change::Gone => Ok(Step::Declines),
+    }
+}
+
+// Adds to a number of the row that the reader answers, or declines.
+#[inline(never)]
+fn add_asked<R: ReadRows>(
+    own: &mut Own,
+    rows: &mut R,
+    name: &RowName,
+    col: u8,
+    n: i64,
+) -> Result<Step, EvalFault<R::Fault>>
+    ensures takes { IfOk result (λ step. (found : Option (List Cell)) × (R.asked rows.new ≡ R.asked rows.old ++ (name.now, found) ∷ []) × Acts (add_effect name.now col found (number_in col found) n) own.old own.new step) }
+    ensures asked { Grew (R.asked rows.old) (R.asked rows.new) }
+    ensures base { R.base rows.new ≡ R.base rows.old }
+    ensures cause { HasReadCause (R.refusals rows.old) (R.refusals rows.new) result }
+{
+    match rows.row(name) {
+        Ok(Some(mut row)) => Ok(add_to(own, name, &mut row, col, n)?),
+        Ok(None) => Ok(Step::Declines),
+        Err(fault) => Err(EvalFault::Read(fault)),
     }
 }
 
@@ -139,27 +254,30 @@ fn add<R: ReadRows>(
     ensures base { R.base rows.new ≡ R.base rows.old }
     ensures cause { HasReadCause (R.refusals rows.old) (R.refusals rows.new) result }
 {
-    let found = match row_of(own, rows, name) {
-        Ok(found) => found,
-        Err(fault) => return Err(EvalFault::Read(fault)),
-    };
-    Ok(set_or_decline(own, *name, added(&found, col, n))?)
+    match own.get(name) {
+        Some(change) => {
+            let change = *change;
+            Ok(add_again(own, name, change, col, n)?)
+        }
+        None => add_asked(own, rows, name, col, n),
+    }
 }
 
 // Sets the row `to` to what the row `from` is.
+#[inline(never)]
 fn copy<R: ReadRows>(
     own: &mut Own,
     rows: &mut R,
     from: &RowName,
-    to: RowName,
+    to: &RowName,
 ) -> Result<Step, EvalFault<R::Fault>>
-    ensures takes { IfOk result (λ step. (reads : List Read) × (R.asked rows.new ≡ R.asked rows.old ++ reads) × Takes (Statement.Copy from.now to) own.old own.new reads step) }
+    ensures takes { IfOk result (λ step. (reads : List Read) × (R.asked rows.new ≡ R.asked rows.old ++ reads) × Takes (Statement.Copy from.now to.now) own.old own.new reads step) }
     ensures asked { Grew (R.asked rows.old) (R.asked rows.new) }
     ensures base { R.base rows.new ≡ R.base rows.old }
     ensures cause { HasReadCause (R.refusals rows.old) (R.refusals rows.new) result }
 {
-    match row_of(own, rows, from) {
-        Ok(found) => Ok(set(own, to, found)?),
+    match change_of(own, rows, from) {
+        Ok(change) => Ok(set(own, to, change)?),
         Err(fault) => Err(EvalFault::Read(fault)),
     }
 }
@@ -176,10 +294,10 @@ pub fn perform<R: ReadRows>(
     ensures cause { HasReadCause (R.refusals rows.old) (R.refusals rows.new) result }
 {
     match statement {
-        Statement::Put { name, row } => Ok(set(own, *name, Some(*row))?),
-        Statement::Del { name } => Ok(set(own, *name, None)?),
+        Statement::Put { name, row } => Ok(put(own, name, row)?),
+        Statement::Del { name } => Ok(remove(own, name)?),
         Statement::Need { name, col, rel, n } => need(own, rows, name, *col, *rel, *n),
         Statement::Add { name, col, n } => add(own, rows, name, *col, *n),
-        Statement::Copy { from, to } => copy(own, rows, from, *to),
+        Statement::Copy { from, to } => copy(own, rows, from, to),
     }
 }

@@ -1,7 +1,7 @@
 //! A reader of the rows after transactions.
 
 ghost use Rattle.std.specs.Prelude.{◌≡◌, [], ◌∷◌, ◌++◌, IfOk, OnOk, OnErr};
-ghost use Rattle.std.specs.FinMap.{empty, get};
+ghost use Rattle.std.specs.FinMap.{empty};
 ghost use Rattle.c5_rows.specs.Order.{row_name_cmp};
 ghost use Rattle.c5_rows.specs.State.{after_txns};
 ghost use Rattle.c5_definitions.specs.Eval.{eval};
@@ -22,7 +22,8 @@ use std::marker::Model;
 struct LatestRows<'a> {
     txns: &'a [Txn],
     places: &'a BTreeMap<RowName, u32>,
-    asked: Vec<(RowName, Option<Row>)>,
+    // The rows never change, so the names say what was answered too.
+    asked: Vec<RowName>,
     refusals: u64,
 }
 
@@ -30,38 +31,25 @@ impl<'a> Model for LatestRows<'a> {
     ghost use Rattle.std.specs.FinMap.{empty};
     ghost use Rattle.c5_rows.specs.Order.{row_name_cmp};
     ghost use Rattle.c5_rows.specs.State.{after_txns};
-    ghost use Rattle.c5_eval.specs.Reader.{ReaderState, reader_code};
-    ghost use Rattle.c5_definitions.specs.Follows.{AnsweredBy};
+    ghost use Rattle.c5_eval.specs.Reader.{ReaderState, reader_code, answers_to};
     ghost use Rattle.c5_primary.specs.Latest.{LeadsToRows};
 
     ghost Value = { ReaderState };
 
     ghost coded = { reader_code };
 
-    ghost view = { λ r. record { base = after_txns r.txns.now (empty {R = row_name_cmp}); asked = r.asked.items; refusals = r.refusals } };
+    ghost view = { λ r. record { base = after_txns r.txns.now (empty {R = row_name_cmp}); asked = answers_to (after_txns r.txns.now (empty {R = row_name_cmp})) r.asked.items; refusals = r.refusals } };
 
-    ghost invariant = { λ r. LeadsToRows r.txns.now r.places.now.entries × AnsweredBy (after_txns r.txns.now (empty {R = row_name_cmp})) r.asked.items };
+    ghost invariant = { λ r. LeadsToRows r.txns.now r.places.now.entries };
 }
 
-// Keeps what was asked and answered.
-fn note(
-    asked: &mut Vec<(RowName, Option<Row>)>,
-    name: &RowName,
-    row: &Option<Row>,
-) -> Result<(), NoMemory>
-    ensures ok { OnOk result (asked.new.items ≡ asked.old.items ++ (name.now, row.now) ∷ []) }
+// Keeps what was asked.
+fn note(asked: &mut Vec<RowName>, name: &RowName) -> Result<(), NoMemory>
+    ensures ok { OnOk result (asked.new.items ≡ asked.old.items ++ name.now ∷ []) }
     ensures err { OnErr result (asked.new.items ≡ asked.old.items) }
 {
-    asked.push((*name, *row))?;
+    asked.push(*name)?;
     Ok(())
-}
-
-// The row of a name, as a value.
-fn row_of(txns: &[Txn], places: &BTreeMap<RowName, u32>, name: &RowName) -> Option<Row>
-    requires { LeadsToRows txns.now places.now.entries }
-    ensures { result ≡ get (after_txns txns.now (empty {R = row_name_cmp})) name.now }
-{
-    row_after(txns, places, name).copied()
 }
 
 impl<'a> LatestRows<'a> {
@@ -98,18 +86,19 @@ impl ReadRows for LatestRows<'_> {
     ghost refusals = { λ r. r.refusals };
 
     fn row(&mut self, name: &RowName) -> Result<Option<Row>, NoMemory> {
-        let row = row_of(self.txns, self.places, name);
-        match note(&mut self.asked, name, &row) {
-            Ok(()) => Ok(row),
-            Err(_) => {
-                self.refusals = self.refusals.saturating_add(1);
-                Err(NoMemory)
-            }
+        if note(&mut self.asked, name).is_err() {
+            self.refusals = self.refusals.saturating_add(1);
+            return Err(NoMemory);
+        }
+        match row_after(self.txns, self.places, name) {
+            Some(row) => Ok(Some(*row)),
+            None => Ok(None),
         }
     }
 }
 
 /// What a body does on the rows after the transactions, from none.
+#[inline(never)]
 pub fn evaluate_after(
     alloc: Global,
     body: &Body,

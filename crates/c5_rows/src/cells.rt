@@ -115,4 +115,12 @@ impl Row {
         row.cells[col as usize] = cell;
         row
     }
+
+    /// Replaces the cell in column `col`, which counts from 0.
+    pub fn set(&mut self, col: u8, cell: Cell)
+        requires { col < length self.old }
+        ensures { self.new ≡ slice_set self.old col cell }
+    {
+        self.cells[col as usize] = cell;
+    }
 }

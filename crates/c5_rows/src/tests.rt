@@ -83,6 +83,9 @@ fn rows_and_columns_have_one_to_eight(rt: HostRuntime) -> Result<(), Fail> {
             changed.cells(),
             [Cell::Int(7), text, Cell::Int(7)].as_slice()
         );
+        let mut same = row;
+        same.set(1, text);
+        assert_eq!(rt; same, changed);
     }
     assert_eq!(rt; row.cells(), &cells[..3]);
     assert_eq!(rt; text.cell_type(), CellType::Text);

@@ -34,12 +34,12 @@ loop-number-preserved c =
     let pushed : c.push.new.self.items ≡ txns ++ txn ∷ [] = c.in_ok-push.ensures.items in
     let seen : (name : RowName) → place_at c.note_writes.new.places.entries name ≡ noted txn.writes (length txns) name (place_at places name) =
     λ name. c.in_ok-note_writes.ensures.noted name
-        ∙ ap (λ (ws : List Write). noted ws n name (place_at places name)) c.as_slice.ensures.value
-        ∙ ap (λ (m : ℕ). noted txn.writes m name (place_at places name)) (sym so_far.count) in
+    ∙ ap (λ (ws : List Write). noted ws n name (place_at places name)) c.as_slice.ensures.value
+    ∙ ap (λ (m : ℕ). noted txn.writes m name (place_at places name)) (sym so_far.count) in
     let made : txn ≡ ran n (n + 1) (get_or bodies n c.index-bodies-number.result) (after_txns txns (empty {R = row_name_cmp})) =
     c.in_ok-txn.ensures
-        ∙ ap (λ (ts : List Txn). ran n (n + 1) c.index-bodies-number.result (after_txns ts (empty {R = row_name_cmp}))) c.deref.ensures.value
-        ∙ ap (λ body. ran n (n + 1) body (after_txns txns (empty {R = row_name_cmp}))) c.index-bodies-number.is in
+    ∙ ap (λ (ts : List Txn). ran n (n + 1) c.index-bodies-number.result (after_txns ts (empty {R = row_name_cmp}))) c.deref.ensures.value
+    ∙ ap (λ body. ran n (n + 1) body (after_txns txns (empty {R = row_name_cmp}))) c.index-bodies-number.is in
     record {
       count = ap length pushed ∙ length-append txns (txn ∷ []) ∙ ap (λ (m : ℕ). m + 1) so_far.count;
       ordered = c.in_ok-note_writes.ensures.ordered;
