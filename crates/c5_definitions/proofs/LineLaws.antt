@@ -1,10 +1,10 @@
 -- The words that are read from a line are those that are written there.
-use Rattle.std.proofs.Common.{◌≡◌, ◌∙◌, ◌≤◌, ◌&&◌, ◌↔◌, ℕ, Bool, true, false, eqb, not, List, [], ◌∷◌, ◌++◌, length, Result, Ok, Err, IsTrue, refl, ap, sym, subst, append_assoc, inl, inr, ◌⊎◌, arith, if◌then◌else◌}
-use Rattle.std.specs.List.{list_all, flat_map, onto_first, AllByRecursion}
+use Rattle.std.proofs.Common.{◌≡◌, ◌∙◌, ◌≤◌, ◌&&◌, ℕ, Bool, true, false, eqb, not, List, [], ◌∷◌, ◌++◌, length, Result, Ok, Err, refl, ap, sym, subst, append_assoc, inl, inr, ◌⊎◌, arith, if◌then◌else◌}
+use Rattle.std.specs.List.{list_all, onto_first, AllByRecursion}
 use Rattle.std.proofs.lemmas.Grind.{common_steps}
 use Rattle.std.proofs.lemmas.List.{append-nil}
 use Rattle.std.proofs.lemmas.List.Folds.{list_all-append}
-use Rattle.c5_rows.specs.Bytes.{is_between, is_key_byte, is_text_byte}
+use Rattle.c5_rows.specs.Bytes.{is_key_byte, is_text_byte}
 use Rattle.c5_definitions.specs.declared.script.ScriptKind.{ScriptKind}
 use Rattle.c5_definitions.specs.declared.script.ScriptKind.TheVariants as kinds
 use Rattle.c5_definitions.specs.Words.{Word, bare, quoted}

@@ -1,5 +1,5 @@
 -- The test of a word by its place on the line.
-use Rattle.std.specs.Prelude.{ℕ, ℤ, ◌-◌, ◌==◌, ◌&&◌, pos, negsuc, Bool, is_some, codes, List, [], ◌∷◌, length, slice_get, Option, Some, None, Result, Ok, Err, if◌then◌else◌}
+use Rattle.std.specs.Prelude.{ℕ, ℤ, ◌-◌, ◌==◌, pos, negsuc, is_some, codes, List, [], ◌∷◌, length, slice_get, Option, Some, None, Result, Ok, Err, if◌then◌else◌}
 use Rattle.std.specs.Str.{bytes_eq}
 use Rattle.c5_rows.specs.Bytes.{checked_bytes, is_between, is_key_byte, is_name_byte, is_text_byte}
 use Rattle.c5_rows.specs.Tables.{table_of}

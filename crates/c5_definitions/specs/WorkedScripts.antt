@@ -1,15 +1,11 @@
 -- Scripts that were worked by hand.
 use Rattle.std.specs.Prelude.{ℕ, List, [], ◌∷◌, ◌++◌, pos, negsuc, codes}
-use Rattle.c5_rows.specs.declared.cells.CellType.TheVariants as types
 use Rattle.c5_rows.specs.declared.cells.Cell.TheVariants.{Int, Txt}
-use Rattle.c5_rows.specs.declared.tables.TableDef.{TableDef}
-use Rattle.c5_definitions.specs.declared.script.Statement.{Statement}
 use Rattle.c5_definitions.specs.declared.script.Statement.TheVariants.{Put, Need, Add}
-use Rattle.c5_definitions.specs.declared.script.ReadLine.{ReadLine}
 use Rattle.c5_definitions.specs.declared.script.ReadLine.TheVariants.{OneRow, SumOf}
 use Rattle.c5_definitions.specs.declared.script.Rel.TheVariants as rels
 use Rattle.c5_definitions.specs.declared.script.TurnWord.TheVariants as turns
-use Rattle.c5_definitions.specs.ScriptParts.{ReadParts, ScriptParts}
+use Rattle.c5_definitions.specs.ScriptParts.{ScriptParts}
 use Rattle.c5_definitions.specs.Worked.{worked_tables, text_tables}
 
 -- one table of one Int column

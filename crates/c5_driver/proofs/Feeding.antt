@@ -1,14 +1,14 @@
 -- What feeding a decoder from a source comes to.
-use Rattle.std.proofs.Common.{◌≡◌, ◌≤◌, ◌<◌, ◌+◌, ◌++◌, ◌∙◌, ℕ, List, [], length, Option, Some, None, refl, sym, subst, ap, arith}
+use Rattle.std.proofs.Common.{◌≡◌, ◌<◌, ◌++◌, ◌∙◌, ℕ, List, [], length, Option, Some, None, refl, sym, subst, ap, arith}
 use Rattle.std.specs.Prelude.{IfSome}
-use Rattle.std.specs.Io.KnownBytes.{Consumes, IsAtEnd}
+use Rattle.std.specs.Io.KnownBytes.{Consumes}
 use Rattle.std.proofs.KnownBytes.{Consumes-trans}
 use Rattle.std.proofs.lemmas.List.{length-append}
 use Rattle.c5_io.specs.Causes.{Rose}
 use Rattle.c5_driver.specs.declared.command.Command.TheVariants.{Apply}
 use Rattle.c5_driver.specs.declared.refusal.Refusal.{Refusal}
 use Rattle.c5_driver.specs.declared.refusal.Refusal.TheVariants as refusals
-use Rattle.c5_driver.specs.Outcome.{ReadsWhole, Refuses}
+use Rattle.c5_driver.specs.Outcome.{Refuses}
 use Rattle.c5_driver.specs.Fed.{Fed, StopsFeeding}
 
 -- nothing is consumed at first

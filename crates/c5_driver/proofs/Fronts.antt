@@ -1,5 +1,5 @@
 -- What a sink grew by, in part or as a whole.
-use Rattle.std.proofs.Common.{◌≡◌, ◌≤◌, ℕ, List, ◌++◌, ◌+◌, length, take, Option, Some, None, sym, subst, ◌∙◌, ap, arith}
+use Rattle.std.proofs.Common.{◌≡◌, ℕ, List, ◌++◌, ◌+◌, length, take, Option, Some, None, sym, subst, ◌∙◌, arith}
 use Rattle.std.proofs.lemmas.List.{take_all, take-append-le, length-append}
 use Rattle.std.proofs.Math.Seq.{take-append-add}
 use Rattle.std.proofs.KnownBytes.{Appends-trans}

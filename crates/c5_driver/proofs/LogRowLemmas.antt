@@ -1,5 +1,5 @@
 -- The changes that writes make, and the writes of transactions taken together.
-use Rattle.std.proofs.Common.{◌≡◌, ◌<◌, ◌+◌, ◌-◌, ◌∙◌, ℕ, List, [], ◌∷◌, ◌++◌, Option, Some, None, suc, length, drop, refl, ap, sym, arith}
+use Rattle.std.proofs.Common.{◌≡◌, ◌<◌, ◌+◌, ◌∙◌, ℕ, List, [], ◌∷◌, ◌++◌, Option, Some, None, suc, length, drop, refl, ap, sym, arith}
 use Rattle.std.specs.List.{slice_get}
 use Rattle.std.specs.FinMap.{insert, remove}
 use Rattle.std.proofs.Math.Seq.{drop-cons}

@@ -1,5 +1,5 @@
 -- The command of one word.
-use Rattle.std.proofs.Common.{◌≡◌, ◌≤◌, ◌<◌, ℕ, List, [], ◌∷◌, length, get_or, arith, refl, ap, sym, ◌∙◌}
+use Rattle.std.proofs.Common.{◌≡◌, ◌≤◌, ◌<◌, List, [], ◌∷◌, length, get_or, arith, ap}
 use Rattle.std.specs.Prelude.{string_bytes, String}
 use Rattle.std.specs.declared.alloc.Global.{Global}
 use Rattle.c5_driver.specs.Commands.{command_named, command_of}

@@ -1,12 +1,12 @@
 -- The first limit that a script passes, from its counts.
-use Rattle.std.proofs.Common.{◌≡◌, ◌<◌, ◌≤◌, ℕ, Bool, true, false, Option, Some, None, length, refl}
+use Rattle.std.proofs.Common.{◌≡◌, ◌<◌, ◌≤◌, Bool, true, false, Option, Some, None, length, refl}
 use Rattle.std.specs.Prelude.{if◌then◌else◌}
 use Rattle.std.proofs.lemmas.Bool.{ltb-false, lt-ltb, le-ltb}
 use Rattle.c5_definitions.specs.ScriptParts.{ScriptParts}
 use Rattle.c5_definitions.specs.Limits.{write_statements, written_rows, AreWithinLimits}
 use Rattle.c5_driver.specs.declared.refusal.Excess.{Excess}
 use Rattle.c5_driver.specs.declared.refusal.Excess.TheVariants.{Transactions, Writes, Rows}
-use Rattle.c5_driver.specs.Excesses.{excess_in, excess_of}
+use Rattle.c5_driver.specs.Excesses.{excess_of}
 
 not-first : (b : Bool) (first : Excess) (others : Option Excess) → (if b then Some first else others) ≡ None → b ≡ false
 not-first true first others e = absurd cc

@@ -1,5 +1,5 @@
 -- What a run leaves of its source and its sink, and when each status comes.
-use Rattle.std.specs.Prelude.{◌≡◌, ◌<◌, ◌≤◌, ℕ, List, [], take, length, Option, Some, IfSome, Err, Ok}
+use Rattle.std.specs.Prelude.{◌≡◌, ◌<◌, ◌≤◌, ℕ, List, length, Option, Some, IfSome, Err, Ok}
 use Rattle.std.specs.FinMap.{empty}
 use Rattle.std.specs.Io.KnownBytes.{Appends, Consumes, IsAtEnd}
 use Rattle.c5_rows.specs.declared.tables.TableDef.{TableDef}

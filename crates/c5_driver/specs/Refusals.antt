@@ -1,5 +1,5 @@
 -- Why a run ends without its text: its status and the line that tells it.
-use Rattle.std.specs.Prelude.{ℕ, List, [], ◌∷◌, ◌++◌, codes, decimal}
+use Rattle.std.specs.Prelude.{ℕ, List, [], ◌++◌, codes, decimal}
 use Rattle.c5_definitions.specs.declared.fault.LogKind.{LogKind}
 use Rattle.c5_definitions.specs.declared.fault.LogKind.TheVariants as log_kinds
 use Rattle.c5_definitions.specs.declared.script.ScriptKind.{ScriptKind}

@@ -1,5 +1,5 @@
 -- What a decoder has come to: at the start, with one more piece, at the end.
-use Rattle.std.proofs.Common.{◌≡◌, ◌∙◌, ℕ, ◌+◌, ◌-◌, ◌*◌, ◌<◌, ◌≤◌, Bool, true, false, List, [], ◌∷◌, ◌++◌, length, take, drop, Option, Some, None, Result, Ok, Err, refl, sym, ap, subst, arith}
+use Rattle.std.proofs.Common.{◌≡◌, ◌∙◌, ℕ, ◌+◌, ◌-◌, ◌<◌, ◌≤◌, true, false, List, [], ◌∷◌, ◌++◌, length, drop, Option, Some, None, Result, Ok, Err, refl, sym, ap, subst, arith}
 use Rattle.std.proofs.lemmas.List.{length-append, drop-append-le}
 use Rattle.c5_rows.specs.declared.tables.TableDef.{TableDef}
 use Rattle.c5_rows.specs.declared.writes.Write.{Write}
@@ -7,7 +7,7 @@ use Rattle.c5_rows.specs.declared.writes.Txn.{Txn}
 use Rattle.c5_definitions.specs.declared.fault.LogFault.{LogFault}
 use Rattle.c5_definitions.specs.declared.fault.LogKind.TheVariants as kinds
 use Rattle.c5_definitions.specs.Steps.{◌>>=◌}
-use Rattle.c5_definitions.specs.Items.{Item, the_magic, table_count, name_length, table_name, column_count, column_types, frame_length, frame_payload, nothing_more, size_of, begin_of, SoFar, Reading, LogParts, whole_from, whole, log_of, after_bytes, at_start}
+use Rattle.c5_definitions.specs.Items.{Item, the_magic, table_count, name_length, table_name, column_count, column_types, frame_length, frame_payload, nothing_more, size_of, begin_of, Reading, LogParts, whole_from, whole, log_of, after_bytes, at_start}
 use Rattle.c5_frames.specs.declared.stage.Stage.TheVariants as stages
 use Rattle.c5_frames.specs.declared.index.Index.{Index}
 use Rattle.c5_frames.specs.declared.progress.Progress.{Progress}

@@ -1,5 +1,5 @@
 -- What a buffer holds, by numbers.
-use Rattle.std.proofs.Common.{◌≡◌, ◌∙◌, ℕ, zero, suc, ◌+◌, ◌-◌, ◌*◌, ◌<◌, ◌≤◌, List, [], ◌∷◌, ◌++◌, length, take, drop, get_or, Option, Some, None, Result, Ok, Err, refl, sym, ap, subst, arith}
+use Rattle.std.proofs.Common.{◌≡◌, ◌∙◌, ℕ, zero, suc, ◌+◌, ◌-◌, ◌<◌, ◌≤◌, List, [], ◌∷◌, ◌++◌, length, take, get_or, Option, Some, None, Result, Ok, refl, sym, ap, subst, arith}
 use Rattle.std.specs.List.{slice_get}
 use Rattle.std.specs.Option.{option_map, IfSome}
 use Rattle.std.proofs.lemmas.List.{append-nil, length-append}
@@ -13,7 +13,7 @@ use Rattle.c5_definitions.specs.Frames.{Frame, write, frame_at}
 use Rattle.c5_frames.specs.declared.index.Place.{Place}
 use Rattle.c5_frames.specs.declared.index.TxnRef.{TxnRef}
 use Rattle.c5_frames.specs.declared.index.Index.{Index}
-use Rattle.c5_frames.specs.Index.{found_in, writes_of, entry_of, entries_of, payload_at, LiesAt, IsIndex}
+use Rattle.c5_frames.specs.Index.{found_in, writes_of, entry_of, LiesAt}
 use Rattle.c5_frames.specs.Holding.{txns_in, HoldsLog}
 use Rattle.c5_frames.proofs.Indexing.{LieAt-get, entries_of-length, entries_of-get, open-length}
 use Rattle.c5_frames.proofs.Last.{slice_get-behind}

@@ -1,12 +1,11 @@
 -- The items that are no payload: what they leave, and what is due behind them.
-use Rattle.std.proofs.Common.{◌≡◌, ◌∙◌, ℕ, zero, suc, ◌+◌, ◌-◌, ◌*◌, ◌<◌, ◌≤◌, Bool, true, false, cond, ltb, eqb, ◌||◌, Option, Some, None, List, [], ◌∷◌, ◌++◌, length, take, drop, Result, Ok, Err, refl, sym, ap, subst, arith}
+use Rattle.std.proofs.Common.{◌≡◌, ◌∙◌, ℕ, zero, suc, ◌-◌, ◌≤◌, Bool, true, false, cond, ltb, eqb, ◌||◌, Option, Some, None, List, [], ◌∷◌, ◌++◌, length, Result, Ok, Err, refl, sym, ap, subst, arith}
 use Rattle.std.specs.Prelude.{is_some}
 use Rattle.std.specs.Str.{bytes_eq}
 use Rattle.std.proofs.lemmas.Bool.{ltb-false, ne_eqb}
 use Rattle.std.proofs.lemmas.List.{length_push}
 use Rattle.c5_rows.specs.Tables.{table_of}
 use Rattle.c5_rows.specs.Bytes.{checked_bytes, is_name_byte}
-use Rattle.c5_rows.specs.declared.cells.CellType.{CellType}
 use Rattle.c5_rows.specs.declared.tables.TableDef.{TableDef}
 use Rattle.c5_rows.specs.declared.writes.Write.{Write}
 use Rattle.c5_rows.specs.declared.writes.Txn.{Txn}
@@ -15,7 +14,7 @@ use Rattle.c5_definitions.specs.declared.fault.LogKind.TheVariants as kinds
 use Rattle.c5_definitions.specs.Numbers.{number_32}
 use Rattle.c5_definitions.specs.Spelling.{magic}
 use Rattle.c5_definitions.specs.Steps.{◌>>=◌, or_cause}
-use Rattle.c5_definitions.specs.Items.{Item, the_magic, table_count, name_length, table_name, column_count, column_types, frame_length, frame_payload, nothing_more, size_of, SoFar, number_in, name_in, types_in, expecting, with_table, after_item}
+use Rattle.c5_definitions.specs.Items.{Item, the_magic, table_count, name_length, table_name, column_count, column_types, frame_length, frame_payload, nothing_more, size_of, SoFar, number_in, name_in, types_in, after_item}
 use Rattle.c5_frames.specs.declared.stage.Stage.{Stage}
 use Rattle.c5_frames.specs.declared.stage.Stage.TheVariants as stages
 use Rattle.c5_frames.specs.declared.index.Place.{Place}

@@ -1,20 +1,18 @@
 -- A decoder that is ready takes the next payload, or finds its fault.
-use Rattle.std.proofs.Common.{◌≡◌, ◌∙◌, ℕ, ◌+◌, ◌-◌, ◌*◌, ◌<◌, ◌≤◌, true, false, List, [], ◌∷◌, ◌++◌, length, take, drop, Ok, Err, refl, sym, ap, subst, arith}
-use Rattle.c5_rows.specs.declared.writes.Write.{Write}
+use Rattle.std.proofs.Common.{◌≡◌, ◌∙◌, ℕ, ◌+◌, ◌-◌, ◌<◌, ◌≤◌, true, false, List, length, Ok, Err, sym, ap, subst, arith}
 use Rattle.c5_rows.specs.declared.writes.RowName.{RowName}
 use Rattle.c5_definitions.specs.declared.fault.LogKind.{LogKind}
 use Rattle.c5_definitions.specs.declared.fault.LogKind.TheVariants as kinds
-use Rattle.c5_definitions.specs.Frames.{Mark, write, mark, end, frame_at}
-use Rattle.c5_definitions.specs.Items.{Item, frame_payload, is_above, last_of}
+use Rattle.c5_definitions.specs.Frames.{Mark, frame_at}
+use Rattle.c5_definitions.specs.Items.{frame_payload, is_above, last_of}
 use Rattle.c5_frames.specs.Payloads.{named, marked, ended, shown_at}
-use Rattle.c5_frames.specs.declared.stage.Stage.{Stage}
 use Rattle.c5_frames.specs.declared.stage.Stage.TheVariants as stages
 use Rattle.c5_frames.specs.declared.index.TxnRef.{TxnRef}
 use Rattle.c5_frames.specs.declared.index.Index.{Index}
 use Rattle.c5_frames.specs.declared.progress.Progress.{Progress}
 use Rattle.c5_frames.specs.Stages.{item_of}
-use Rattle.c5_frames.specs.Index.{Found, found_in, with_place, with_txn, entries_of, IsIndex, HasRoom}
-use Rattle.c5_frames.specs.Progress.{State, state_of, tables_of, IsDue, Tracks, IsReady, Faults}
+use Rattle.c5_frames.specs.Index.{Found, found_in, with_place, with_txn, HasRoom}
+use Rattle.c5_frames.specs.Progress.{state_of, tables_of, IsDue, Tracks, IsReady, Faults}
 use Rattle.c5_frames.proofs.Indexing.{open-length, entries_of-length}
 use Rattle.c5_frames.proofs.Tracking.{payload_state, behind_frame, item_at, Tracks-payload, Faults-payload, holds-end, holds-mark, holds-write, holds-fault, payload-fault, Tracks-written, Faults-order, Tracks-marked, Faults-stamp, Faults-count, Tracks-ended, Faults-open, Faults-end, HasRoom-less}
 

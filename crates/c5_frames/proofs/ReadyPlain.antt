@@ -1,14 +1,12 @@
 -- A decoder that is ready takes the next item that is no payload, or finds its fault.
-use Rattle.std.proofs.Common.{◌≡◌, ◌∙◌, ℕ, ◌+◌, ◌-◌, ◌*◌, ◌<◌, ◌≤◌, List, [], ◌∷◌, ◌++◌, length, take, drop, Option, Result, Ok, Err, refl, sym, ap, subst, arith}
+use Rattle.std.proofs.Common.{◌≡◌, ◌∙◌, ℕ, ◌+◌, ◌-◌, ◌<◌, ◌≤◌, List, length, Option, Ok, Err, sym, ap, subst, arith}
 use Rattle.c5_rows.specs.declared.tables.TableDef.{TableDef}
 use Rattle.c5_definitions.specs.declared.fault.LogKind.{LogKind}
-use Rattle.c5_definitions.specs.Items.{Item, SoFar, frame_length, frame_payload, size_of, after_item}
+use Rattle.c5_definitions.specs.Items.{Item, frame_length, frame_payload, size_of}
 use Rattle.c5_frames.specs.declared.stage.Stage.{Stage}
 use Rattle.c5_frames.specs.declared.stage.Stage.TheVariants as stages
-use Rattle.c5_frames.specs.declared.index.TxnRef.{TxnRef}
 use Rattle.c5_frames.specs.declared.progress.Progress.{Progress}
 use Rattle.c5_frames.specs.Stages.{item_of}
-use Rattle.c5_frames.specs.Index.{Found, found_in}
 use Rattle.c5_frames.specs.Progress.{State, state_of, tables_of, so_far_of, Tracks, IsReady, IsPlain, Faults, HasWhole, tables_after}
 use Rattle.c5_frames.proofs.Tracking.{item_at, item-length, reads-next, Faults-item, IsDue-some, HasRoom-less}
 use Rattle.c5_frames.proofs.Plain.{Tables, rebuild, after-plain, due-after, keeps-after}

@@ -1,11 +1,10 @@
 -- Reading by whole items keeps to the bytes.
-use Rattle.std.proofs.Common.{◌≡◌, ◌∙◌, ℕ, ◌+◌, ◌-◌, ◌*◌, ◌<◌, ◌≤◌, Bool, true, false, List, [], ◌∷◌, ◌++◌, length, take, drop, Result, Ok, Err, refl, sym, ap, subst, arith, eq-eqb, lt-ltb, le-ltb}
+use Rattle.std.proofs.Common.{◌≡◌, ◌∙◌, ℕ, ◌+◌, ◌-◌, ◌<◌, ◌≤◌, true, false, List, [], ◌∷◌, ◌++◌, length, take, drop, Result, Ok, Err, refl, sym, ap, subst, arith, eq-eqb, lt-ltb, le-ltb}
 use Rattle.std.proofs.lemmas.Bool.{ne_eqb}
-use Rattle.std.proofs.lemmas.List.{take-append-drop, length-take-le, length-drop, drop-drop, length-append, drop-append-le, length_push}
+use Rattle.std.proofs.lemmas.List.{take-append-drop, length-take-le, length-drop, drop-drop, length_push}
 use Rattle.c5_rows.specs.declared.tables.TableDef.{TableDef}
 use Rattle.c5_rows.specs.declared.writes.RowName.{RowName}
 use Rattle.c5_rows.specs.declared.writes.Write.{Write}
-use Rattle.c5_rows.specs.declared.writes.Txn.{Txn}
 use Rattle.c5_definitions.specs.declared.fault.LogKind.{LogKind}
 use Rattle.c5_definitions.specs.declared.fault.LogKind.TheVariants as kinds
 use Rattle.c5_definitions.specs.declared.fault.LogFault.{LogFault}
@@ -17,7 +16,7 @@ use Rattle.c5_frames.specs.declared.index.Place.{Place}
 use Rattle.c5_frames.specs.declared.index.TxnRef.{TxnRef}
 use Rattle.c5_frames.specs.declared.index.Index.{Index}
 use Rattle.c5_frames.specs.Index.{Found, with_place, with_txn, HasRoom}
-use Rattle.c5_frames.specs.Progress.{State, so_far_of, reading_of, IsDue, IsFoundBefore, Tracks, Faults, HasWhole}
+use Rattle.c5_frames.specs.Progress.{State, so_far_of, IsDue, IsFoundBefore, Tracks, Faults, HasWhole}
 use Rattle.c5_frames.proofs.LawBytes.{after_bytes-append, after_bytes-part, after_bytes-whole}
 use Rattle.c5_frames.proofs.Indexing.{open-length, IsIndex-written, IsIndex-marked}
 

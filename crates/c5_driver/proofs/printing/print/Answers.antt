@@ -1,5 +1,4 @@
-use Rattle.std.proofs.Common.{rules}
-use Rattle.c5_driver.proofs.Fronts.{appends_kept, whole_is_front, part_is_front}
+use Rattle.c5_driver.proofs.Fronts.{appends_kept, whole_is_front}
 use Rattle.c5_driver.proofs.printing.print.Goals as goal
 
 pub returns-in-Ok-finish-clause-front : goal.returns-in-Ok-finish-clause-front

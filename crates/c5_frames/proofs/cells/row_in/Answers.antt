@@ -1,4 +1,4 @@
-use Rattle.std.proofs.Common.{◌≡◌, ◌∙◌, ◌∷◌, ◌++◌, [], List, sym, ap, arith, take_all}
+use Rattle.std.proofs.Common.{◌∙◌, ◌∷◌, ◌++◌, [], List, sym, ap, arith, take_all}
 use Rattle.c5_rows.specs.declared.cells.Cell.{Cell}
 use Rattle.c5_frames.specs.Refs.{cells_of}
 use Rattle.c5_frames.proofs.RefLemmas.{row-length, row-start, next-cell, next-read, take-next}

@@ -1,7 +1,6 @@
-use Rattle.std.proofs.Common.{◌≡◌, ◌∙◌, ◌<◌, ◌+◌, ap, sym, subst, List, ℕ, length}
-use Rattle.c5_definitions.specs.Items.{after_bytes, at_start, size_of}
-use Rattle.c5_frames.specs.Stages.{item_of}
-use Rattle.c5_frames.specs.Progress.{Decodes, IsReady, state_of}
+use Rattle.std.proofs.Common.{◌∙◌, ap, sym, subst, List, ℕ}
+use Rattle.c5_definitions.specs.Items.{after_bytes, at_start}
+use Rattle.c5_frames.specs.Progress.{IsReady, state_of}
 use Rattle.c5_frames.proofs.Fed.{ready-more, reads-part}
 use Rattle.c5_frames.proofs.decoder.feed_whole.Goals as goal
 

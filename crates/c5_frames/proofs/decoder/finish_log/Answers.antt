@@ -1,4 +1,4 @@
-use Rattle.std.proofs.Common.{◌≡◌, ◌∙◌, ap, sym, subst, ℕ, List, Err}
+use Rattle.std.proofs.Common.{◌∙◌, ap, sym, subst, ℕ, List, Err}
 use Rattle.c5_definitions.specs.declared.fault.LogKind.TheVariants as kinds
 use Rattle.c5_definitions.specs.Items.{log_of}
 use Rattle.c5_definitions.specs.Lawful.{Spells}

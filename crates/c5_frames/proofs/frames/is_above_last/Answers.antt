@@ -1,4 +1,4 @@
-use Rattle.std.proofs.Common.{◌≡◌, ◌∙◌, ◌-◌, ◌≤◌, length, sym, ap, arith}
+use Rattle.std.proofs.Common.{◌∙◌, ◌-◌, sym, ap, arith}
 use Rattle.std.specs.Ordering.{is_gt}
 use Rattle.c5_rows.specs.Order.{row_name_cmp}
 use Rattle.c5_rows.specs.declared.writes.RowName.{RowName}

@@ -1,4 +1,4 @@
-use Rattle.std.proofs.Common.{◌≡◌, ◌∙◌, ap, sym, List, ℕ, Err}
+use Rattle.std.proofs.Common.{◌≡◌, ◌∙◌, ap, sym, List, Err}
 use Rattle.c5_rows.specs.declared.tables.TableDef.{TableDef}
 use Rattle.c5_frames.specs.Payloads.{shown_at}
 use Rattle.c5_frames.specs.Progress.{tables_of}

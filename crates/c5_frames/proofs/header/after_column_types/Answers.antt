@@ -1,7 +1,6 @@
-use Rattle.std.proofs.Common.{◌≡◌, ◌∙◌, ◌-◌, ◌++◌, ◌∷◌, ℕ, eqb, List, [], Ok, Result, sym, ap, cond, refl}
+use Rattle.std.proofs.Common.{◌≡◌, ◌∙◌, ◌-◌, ◌++◌, ◌∷◌, ℕ, eqb, List, [], Ok, sym, ap, cond, refl}
 use Rattle.c5_rows.specs.declared.cells.CellType.{CellType}
 use Rattle.c5_rows.specs.declared.tables.TableDef.{TableDef}
-use Rattle.c5_definitions.specs.declared.fault.LogKind.{LogKind}
 use Rattle.c5_definitions.specs.Items.{Item, column_types, frame_length, name_length, types_in, after_item}
 use Rattle.c5_frames.specs.Stages.{item_of}
 use Rattle.c5_frames.specs.Progress.{tables_of, tables_after}

@@ -1,4 +1,4 @@
-use Rattle.std.proofs.Common.{◌-◌, ℕ, length}
+use Rattle.std.proofs.Common.{◌-◌, length}
 use Rattle.c5_frames.specs.Progress.{IsReady}
 use Rattle.c5_frames.proofs.steps.take_items.Given as goal
 

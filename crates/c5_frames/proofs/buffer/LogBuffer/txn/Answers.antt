@@ -1,4 +1,4 @@
-use Rattle.std.proofs.Common.{◌≡◌, ◌<◌, ◌+◌, ap, length, take, subst, Some, sym, arith}
+use Rattle.std.proofs.Common.{◌≡◌, ◌+◌, ap, length, take, subst, Some, arith}
 use Rattle.std.specs.List.{slice_get}
 use Rattle.std.specs.Option.{option_map}
 use Rattle.c5_frames.specs.Log.{Log}

@@ -1,9 +1,5 @@
-use Rattle.std.proofs.Common.{◌≡◌, ◌∙◌, ap, sym, subst, ℕ, List}
-use Rattle.std.specs.Result.{IfErr}
-use Rattle.c5_rows.specs.declared.tables.TableDef.{TableDef}
-use Rattle.c5_rows.specs.declared.writes.Txn.{Txn}
+use Rattle.std.proofs.Common.{◌∙◌, ap, sym, subst, ℕ, List}
 use Rattle.c5_definitions.specs.Items.{log_of}
-use Rattle.c5_definitions.specs.Lawful.{Spells}
 use Rattle.c5_frames.specs.Feeding.{Finishes}
 use Rattle.c5_frames.proofs.Fed.{faulty-log, never-both, refused}
 use Rattle.c5_frames.proofs.decoder.Decoder.finish.Goals as goal

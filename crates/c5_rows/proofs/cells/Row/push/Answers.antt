@@ -1,4 +1,4 @@
-use Rattle.std.proofs.Common.{length, ◌<◌, ◌+◌, ap, arith}
+use Rattle.std.proofs.Common.{length, ◌<◌, ap, arith}
 use Rattle.c5_rows.specs.Cells.{blank_cell}
 use Rattle.c5_rows.specs.Padded.{IsPadded-push, length-of_padded}
 use Rattle.c5_rows.proofs.cells.Row.push.Goals as goal
