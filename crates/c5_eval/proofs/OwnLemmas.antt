@@ -1,5 +1,5 @@
 -- The rows that changes set, as a finite map, and the writes that it makes.
-use Rattle.std.proofs.Common.{◌≡◌, Bool, true, false, cond, ◌&&◌, T, List, [], ◌∷◌, ◌++◌, Option, Some, None, map, append_assoc, refl, ap, sym, subst, ◌∙◌, Ordering, Less, Equal, Greater}
+use Rattle.std.proofs.Common.{◌≡◌, ◌<◌, ℕ, suc, length, drop, get_or, Bool, true, false, cond, ◌&&◌, T, List, [], ◌∷◌, ◌++◌, Option, Some, None, map, append_assoc, refl, ap, sym, subst, ◌∙◌, Ordering, Less, Equal, Greater}
 use Rattle.std.specs.Prelude.{option_map}
 use Rattle.std.specs.FinMap.{get, insert, entries, entries_sorted, is_sorted, from_entries, find, put, get-insert, get-from_entries, entries-insert, same_map, len-entries, len-empty, empty}
 use Rattle.std.specs.FinMap.Entries.{below_all}
@@ -10,6 +10,7 @@ use Rattle.std.specs.List.{AllByRecursion}
 use Rattle.std.specs.List.Sorted.{IsStrictlySortedBy}
 use Rattle.std.specs.Cmp.{eq_by_cmp_equiv}
 use Rattle.std.proofs.lemmas.List.{nil_from_length}
+use Rattle.std.proofs.Math.Seq.{drop-cons}
 use Rattle.c5_rows.specs.declared.cells.Cell.{Cell}
 use Rattle.c5_rows.specs.declared.writes.RowName.{RowName}
 use Rattle.c5_rows.specs.declared.writes.Change.{Change}
@@ -19,7 +20,7 @@ use Rattle.c5_rows.specs.Writes.{IsAscending, put_write}
 use Rattle.c5_rows.specs.Order.{row_name_cmp, row_name_cmp_total, row_name_cmp_exact}
 use Rattle.c5_definitions.specs.Eval.{write_of, change_to}
 use Rattle.c5_definitions.specs.Follows.{Own, own_writes}
-use Rattle.c5_eval.specs.Setting.{row_made, rows_made, set_by}
+use Rattle.c5_eval.specs.Setting.{row_made, rows_made, pairs_of, set_by}
 
 -- what a tree has at a name
 abbrev pub change_at : List (RowName × Change) → RowName → Option Change
@@ -50,6 +51,14 @@ one_set es fs name change h = same_map row_name_cmp_total row_name_cmp_exact _ _
     ∙ ap (cond (is_at (row_name_cmp name) q) (Some (row_made change))) (get_made es q)
     ∙ ap (λ b. cond b (Some (row_made change)) (get (set_by es) q)) ((eq_by_cmp_equiv row_name_cmp_total).symm name q)
     ∙ sym (get-insert row_name_cmp_total (set_by es) name (row_made change) q))
+
+-- one change more, of writes that are gone through from the last to the first
+pub tree-further : (ws : List Write) (i n : ℕ) (w : Write) (old new : List (RowName × Change)) → i < length ws → n ≡ suc i → w ≡ get_or ws i w → set_by old ≡ set_by (pairs_of (drop n ws)) →
+    ((q : RowName) → change_at new q ≡ cond (is_at (row_name_cmp w.name) q) (Some w.change) (change_at old q)) → set_by new ≡ set_by (pairs_of (drop i ws))
+tree-further ws i n w old new lt next is so_far h =
+    one_set old new w.name w.change h
+    ∙ ap (λ (m : Own). insert m w.name (row_made w.change)) (so_far ∙ ap (λ (k : ℕ). set_by (pairs_of (drop k ws))) next)
+    ∙ ap (λ (vs : List Write). set_by (pairs_of vs)) (sym (drop-cons ws i w lt ∙ ap (λ (v : Write). v ∷ drop (suc i) ws) (sym is)))
 
 -- ---- the writes
 

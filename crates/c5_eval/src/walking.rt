@@ -1,14 +1,15 @@
 //! Whole bodies.
 
-ghost use Rattle.std.specs.Prelude.{◌≡◌, ◌++◌, List, [], IfOk, if◌then◌else◌};
+ghost use Rattle.std.specs.Prelude.{◌≡◌, ◌++◌, List, [], IfOk, if◌then◌else◌, length, filter};
 ghost use Rattle.c5_definitions.specs.Follows.{Read, Follows, own_writes};
+ghost use Rattle.c5_eval.specs.Setting.{may_set};
 ghost use Rattle.c5_eval.specs.Faults.{HasReadCause, Grew};
 
 use crate::own::Own;
 use crate::reading::{EvalFault, ReadRows};
 use crate::steps::{Step, perform};
 use c5_rows::{NoMemory, Writes};
-use c5_script::Body;
+use c5_script::{Body, Statement};
 use std::alloc::Global;
 
 /// How a body ended.
@@ -21,15 +22,32 @@ pub struct Outcome {
 }
 
 // How a body ends that has set these rows.
-fn ending(alloc: Global, own: &Own, declined: bool) -> Result<Outcome, NoMemory>
-    ensures { IfOk result (λ outcome. outcome ≡ record { declined = declined; writes = (if declined then [] else own_writes own.now) }) }
+fn ending(alloc: Global, own: Own, declined: bool) -> Result<Outcome, NoMemory>
+    ensures { IfOk result (λ outcome. outcome ≡ record { declined = declined; writes = (if declined then [] else own_writes own) }) }
 {
     let writes = if declined {
         Writes::new(alloc)
     } else {
-        own.writes(alloc)?
+        own.into_writes()?
     };
     Ok(Outcome { declined, writes })
+}
+
+// Whether the statement may set a row.
+fn may_set(statement: &Statement) -> bool
+    ensures { result ≡ may_set statement.now }
+{
+    !matches!(statement, Statement::Need { .. })
+}
+
+// How many of the statements may set a row.
+fn setting(statements: &[Statement]) -> usize
+    ensures { result ≡ length (filter may_set statements.now) }
+{
+    statements
+        .iter()
+        .filter(|statement| may_set(statement))
+        .count()
 }
 
 /// Reads a body from top to bottom. A row that it has set itself is not asked for.
@@ -46,12 +64,13 @@ pub fn evaluate<R: ReadRows>(
     ensures base { R.base rows.new ≡ R.base rows.old }
     ensures cause { HasReadCause (R.refusals rows.old) (R.refusals rows.new) result }
 {
-    let mut own = Own::new(alloc);
+    // The writes have as much memory as they may need, so that they are never moved.
+    let mut own = Own::with_capacity(alloc, setting(body.statements()))?;
     for statement in body.statements() {
         match perform(statement, &mut own, rows)? {
             Step::GoesOn => {}
-            Step::Declines => return Ok(ending(alloc, &own, true)?),
+            Step::Declines => return Ok(ending(alloc, own, true)?),
         }
     }
-    Ok(ending(alloc, &own, false)?)
+    Ok(ending(alloc, own, false)?)
 }
