@@ -1,5 +1,6 @@
 mod Blocks
 mod OnStates
 mod OwnLemmas
+mod OwnInWrites
 mod ReadBlocks
 mod Walks

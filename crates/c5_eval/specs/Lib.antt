@@ -7,3 +7,4 @@ pub mod Faults
 pub mod Stepping
 pub mod Reader
 pub mod Setting
+pub mod Held

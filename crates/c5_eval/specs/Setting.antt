@@ -1,4 +1,4 @@
--- The rows that writes set.
+-- The rows that changes make.
 use Rattle.std.specs.Prelude.{Bool, true, false, List, map, Option, Some, None}
 use Rattle.std.specs.FinMap.{from_entries}
 use Rattle.c5_rows.specs.declared.cells.Cell.{Cell}
@@ -16,13 +16,17 @@ abbrev pub row_made : Change → Option (List Cell)
 row_made (Put row) = Some row
 row_made Gone = None
 
--- each name with the row that its write makes
-abbrev pub rows_made : List Write → List (RowName × Option (List Cell))
-rows_made writes = map (λ write. (write.name, row_made write.change)) writes
+-- each name with the row that its change makes
+abbrev pub rows_made : List (RowName × Change) → List (RowName × Option (List Cell))
+rows_made changes = map (λ pair. (pair.0, row_made pair.1)) changes
 
--- the rows that the writes set
-abbrev pub set_by : List Write → Own
-set_by writes = from_entries {R = row_name_cmp} (rows_made writes)
+-- the rows that the changes set
+abbrev pub set_by : List (RowName × Change) → Own
+set_by changes = from_entries {R = row_name_cmp} (rows_made changes)
+
+-- the changes of writes
+abbrev pub pairs_of : List Write → List (RowName × Change)
+pairs_of writes = map (λ write. (write.name, write.change)) writes
 
 -- any statement but a need may set a row
 abbrev pub may_set : Statement → Bool

@@ -1,19 +1,29 @@
 //! The rows that a body has set.
 
-ghost use Rattle.std.specs.Prelude.{◌≡◌, OnOk, IfOk, option_map};
+ghost use Rattle.std.specs.Prelude.{◌≡◌, OnOk, IfOk, Some, cond, option_map};
 ghost use Rattle.std.specs.Option.{option_copied};
 ghost use Rattle.std.specs.FinMap as map;
+ghost use Rattle.std.specs.Map.{lookup};
+ghost use Rattle.std.specs.BTreeMap.{IsOrdered, is_at};
+ghost use Rattle.c5_rows.specs.declared.writes.RowName.{RowName as Name};
+ghost use Rattle.c5_rows.specs.Order.{row_name_cmp};
 ghost use Rattle.c5_definitions.specs.Follows.{own_writes};
-ghost use Rattle.c5_eval.specs.Setting.{row_made};
+ghost use Rattle.c5_eval.specs.Setting.{row_made, pairs_of, set_by};
+ghost use Rattle.c5_eval.specs.Held.{held_by, IsOrderedIn};
 
-use c5_rows::{Change, NoMemory, RowName, Writes};
+use c5_rows::{Change, NoMemory, RowName, Write, Writes};
 use std::alloc::Global;
+use std::collections::BTreeMap;
 use std::marker::Model;
 
-/// The rows that a body has set, as the writes that set them.
+/// The rows that a body has set, each by the change that makes it.
+// While the names come nearly in order the changes stand in the writes that the body makes, where those behind a
+// new one move. From the first name on that would move many they stand in a tree.
 #[derive(Drop)]
 pub struct Own {
+    alloc: Global,
     writes: Writes,
+    tree: Option<BTreeMap<RowName, Change>>,
 }
 
 impl Model for Own {
@@ -23,16 +33,88 @@ impl Model for Own {
     ghost use Rattle.c5_rows.specs.declared.cells.Cell.{Cell};
     ghost use Rattle.c5_rows.specs.Cells.{coded_cell};
     ghost use Rattle.c5_rows.specs.Order.{row_name_cmp, coded_row_name};
-    ghost use Rattle.c5_rows.specs.Writes.{IsAscending};
     ghost use Rattle.c5_eval.specs.Setting.{set_by};
+    ghost use Rattle.c5_eval.specs.Held.{held_by, IsOrderedIn};
 
     ghost Value = { map.FinMap row_name_cmp (Option (List Cell)) };
 
     ghost coded = { map.code coded_row_name (coded_option (coded_list coded_cell)) };
 
-    ghost view = { λ o. set_by o.writes };
+    ghost view = { λ o. set_by (held_by o.writes o.tree) };
 
-    ghost invariant = { λ o. IsAscending o.writes };
+    ghost invariant = { λ o. IsOrderedIn o.tree };
+}
+
+// Sets the value of a name. One that stands is written over where it lies.
+#[inline(always)]
+fn put<V: Drop>(values: &mut BTreeMap<RowName, V>, name: &RowName, value: V) -> Result<(), NoMemory>
+    requires { IsOrdered row_name_cmp values.old }
+    ensures ordered { IsOrdered row_name_cmp values.new }
+    ensures set { OnOk result ((q : Name) → lookup (is_at (row_name_cmp q)) values.new.entries ≡ cond (is_at (row_name_cmp name.now) q) (Some value) (lookup (is_at (row_name_cmp q)) values.old.entries)) }
+{
+    match values.get_mut(name) {
+        Some(old) => *old = value,
+        None => {
+            values.insert(*name, value)?;
+        }
+    }
+    Ok(())
+}
+
+// The changes of the writes, as a tree.
+fn tree_of(alloc: Global, writes: &[Write]) -> Result<BTreeMap<RowName, Change>, NoMemory>
+    ensures ordered { IfOk result (λ tree. IsOrdered row_name_cmp tree) }
+    ensures same { IfOk result (λ tree. set_by tree.entries ≡ set_by (pairs_of writes.now)) }
+{
+    let mut tree = BTreeMap::new(alloc);
+    for done in 0..writes.len() {
+        let write = writes[writes.len() - 1 - done];
+        put(&mut tree, &write.name, write.change)?;
+    }
+    Ok(tree)
+}
+
+// The writes of the changes of a tree.
+fn writes_of(alloc: Global, tree: &BTreeMap<RowName, Change>) -> Result<Writes, NoMemory>
+    requires { IsOrdered row_name_cmp tree.now }
+    ensures { IfOk result (λ writes. writes ≡ own_writes (set_by tree.now.entries)) }
+{
+    let mut writes = Writes::with_capacity(alloc, tree.len())?;
+    for (name, change) in tree.iter() {
+        writes.set(*name, *change)?;
+    }
+    Ok(writes)
+}
+
+// How many writes may move when one is added.
+const FEW: usize = 16;
+
+// Whether no more than `FEW` writes stand behind the place of this name.
+fn is_near_end(writes: &[Write], name: &RowName) -> bool {
+    writes.len() <= FEW || writes[writes.len() - 1 - FEW].name < *name
+}
+
+// Sets a row, in the writes or in the tree.
+#[inline(always)]
+fn set_in(
+    writes: &mut Writes,
+    tree: &mut Option<BTreeMap<RowName, Change>>,
+    name: &RowName,
+    change: Change,
+) -> Result<(), NoMemory>
+    requires { IsOrderedIn tree.old }
+    ensures ordered { IsOrderedIn tree.new }
+    ensures set { OnOk result (set_by (held_by writes.new tree.new) ≡ map.insert (set_by (held_by writes.old tree.old)) name.now (row_made change)) }
+{
+    match tree {
+        Some(tree) => put(tree, name, change)?,
+        None => {
+            // The slice is known to ascend.
+            let _writes = writes.as_slice();
+            writes.set(*name, change)?;
+        }
+    }
+    Ok(())
 }
 
 impl Own {
@@ -41,7 +123,9 @@ impl Own {
         ensures { IfOk result (λ own. own ≡ map.empty) }
     {
         Ok(Own {
+            alloc,
             writes: Writes::with_capacity(alloc, count)?,
+            tree: None,
         })
     }
 
@@ -49,23 +133,47 @@ impl Own {
     pub fn get(&self, name: &RowName) -> Option<&Change>
         ensures { option_map row_made (option_copied result) ≡ map.get self.now name.now }
     {
-        self.writes.find(name)
+        match &self.tree {
+            Some(tree) => tree.get(name),
+            None => self.writes.find(name),
+        }
+    }
+
+    // Moves the changes to a tree, where a new one of this name would move many.
+    fn make_room(&mut self, name: &RowName) -> Result<(), NoMemory>
+        ensures { self.new ≡ self.old }
+    {
+        if self.tree.is_none() && !is_near_end(self.writes.as_slice(), name) {
+            let tree = tree_of(self.alloc, self.writes.as_slice())?;
+            self.tree = Some(tree);
+        }
+        Ok(())
     }
 
     /// Sets the row to what the change makes it.
     pub fn set(&mut self, name: &RowName, change: Change) -> Result<(), NoMemory>
         ensures { OnOk result (self.new ≡ map.insert self.old name.now (row_made change)) }
     {
-        self.writes.set(*name, change)?;
-        // The slice is known to ascend.
-        let _writes = self.writes.as_slice();
-        Ok(())
+        self.make_room(name)?;
+        set_in(&mut self.writes, &mut self.tree, name, change)
     }
 
     /// One write for each row that was set, ascending by name.
-    pub fn into_writes(self) -> Writes
-        ensures { result ≡ own_writes self }
+    pub fn into_writes(self) -> Result<Writes, NoMemory>
+        ensures { IfOk result (λ writes. writes ≡ own_writes self) }
     {
-        self.writes
+        let Own {
+            alloc,
+            writes,
+            tree,
+        } = self;
+        match tree {
+            Some(tree) => writes_of(alloc, &tree),
+            None => {
+                // The slice is known to ascend.
+                let _writes = writes.as_slice();
+                Ok(writes)
+            }
+        }
     }
 }

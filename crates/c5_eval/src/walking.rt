@@ -8,7 +8,7 @@ ghost use Rattle.c5_eval.specs.Faults.{HasReadCause, Grew};
 use crate::own::Own;
 use crate::reading::{EvalFault, ReadRows};
 use crate::steps::{Step, perform};
-use c5_rows::Writes;
+use c5_rows::{NoMemory, Writes};
 use c5_script::{Body, Statement};
 use std::alloc::Global;
 
@@ -22,15 +22,15 @@ pub struct Outcome {
 }
 
 // How a body ends that has set these rows.
-fn ending(alloc: Global, own: Own, declined: bool) -> Outcome
-    ensures { result ≡ record { declined = declined; writes = (if declined then [] else own_writes own) } }
+fn ending(alloc: Global, own: Own, declined: bool) -> Result<Outcome, NoMemory>
+    ensures { IfOk result (λ outcome. outcome ≡ record { declined = declined; writes = (if declined then [] else own_writes own) }) }
 {
     let writes = if declined {
         Writes::new(alloc)
     } else {
-        own.into_writes()
+        own.into_writes()?
     };
-    Outcome { declined, writes }
+    Ok(Outcome { declined, writes })
 }
 
 // Whether the statement may set a row.
@@ -69,8 +69,8 @@ pub fn evaluate<R: ReadRows>(
     for statement in body.statements() {
         match perform(statement, &mut own, rows)? {
             Step::GoesOn => {}
-            Step::Declines => return Ok(ending(alloc, own, true)),
+            Step::Declines => return Ok(ending(alloc, own, true)?),
         }
     }
-    Ok(ending(alloc, own, false))
+    Ok(ending(alloc, own, false)?)
 }
