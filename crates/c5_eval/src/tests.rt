@@ -296,3 +296,22 @@ fn a_text_is_no_number(rt: HostRuntime) -> Result<(), Fail> {
     evaluation_law();
     Ok(())
 }
+
+#[test]
+fn rows_set_out_of_order_are_written_in_order(rt: HostRuntime) -> Result<(), Fail> {
+    let alloc = rt.alloc();
+    let mut statements = Vec::new(alloc);
+    for letter in b"tsrqponmlkjihgfedcba" {
+        statements.push(put(&[*letter], 1)?)?;
+    }
+    statements.push(add(b"c", 4)?)?;
+    let outcome = evaluate_rows(alloc, &body_of(alloc, &statements)?, &Rows::new(alloc))?;
+    let writes = outcome.writes.as_slice();
+    assert_eq!(rt; writes.len(), 20);
+    for (write, letter) in writes.iter().zip(b"abcdefghijklmnopqrst") {
+        let n = if *letter == b'c' { 5 } else { 1 };
+        assert!(rt; write.name == name(&[*letter])?);
+        assert!(rt; write.change == change(Some(n))?);
+    }
+    Ok(())
+}

@@ -124,7 +124,7 @@ impl<const N: usize> Ord for Short<N> {
     ghost matches_eq = { Prim.search (comparing, rules) };
 
     // The bytes past the length are 0, so the lengths count only where the arrays are the same.
-    #[inline]
+    #[inline(always)]
     fn cmp(&self, other: &Self) -> Ordering {
         order(&self.bytes, &other.bytes, self.len, other.len)
     }

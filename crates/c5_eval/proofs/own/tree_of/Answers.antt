@@ -1,5 +1,4 @@
-use Rattle.std.proofs.Common.{◌≡◌, ◌<◌, ◌+◌, ◌-◌, ◌∙◌, ℕ, suc, List, length, drop, ap, arith}
-use Rattle.c5_rows.specs.declared.writes.Write.{Write}
+use Rattle.std.proofs.Common.{◌≡◌, ◌<◌, ◌+◌, ◌-◌, ◌∙◌, ℕ, suc, length, drop, ap, arith}
 use Rattle.c5_eval.specs.Setting.{pairs_of, set_by}
 use Rattle.c5_eval.proofs.OwnLemmas.{tree-further}
 use Rattle.c5_eval.proofs.own.tree_of.Goals as goal

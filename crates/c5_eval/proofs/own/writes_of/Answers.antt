@@ -1,5 +1,4 @@
 use Rattle.std.proofs.Common.{◌≡◌, ◌∙◌, ap, sym, map}
-use Rattle.c5_definitions.specs.Follows.{own_writes}
 use Rattle.c5_eval.specs.Setting.{set_by}
 use Rattle.c5_eval.proofs.OwnLemmas.{write_at, own_writes-made, next_write}
 use Rattle.c5_eval.proofs.own.writes_of.Goals as goal
