@@ -1,6 +1,6 @@
 //! The bodies of a script, one after the other.
 
-ghost use Rattle.std.specs.Prelude.{◌≡◌, ◌≤◌, ◌<◌, ◌+◌, ◌^◌, length, IfOk};
+ghost use Rattle.std.specs.Prelude.{◌≡◌, ◌≤◌, ◌<◌, ◌+◌, ◌^◌, ◌++◌, ◌∷◌, [], length, IfOk, OnOk};
 ghost use Rattle.std.specs.FinMap.{empty};
 ghost use Rattle.std.specs.List.{All, range_with_len, sum_by};
 ghost use Rattle.c5_rows.specs.Order.{row_name_cmp};
@@ -37,6 +37,14 @@ fn ran(
     })
 }
 
+// Keeps a transaction, also one without writes.
+fn keep(txns: &mut Vec<Txn>, txn: Txn) -> Result<(), NoMemory>
+    ensures { OnOk result (txns.new.items ≡ txns.old.items ++ txn ∷ []) }
+{
+    txns.push(txn)?;
+    Ok(())
+}
+
 // The transactions of all bodies, in the order of their numbers.
 fn ran_in_order(alloc: Global, bodies: &[Body]) -> Result<Vec<Txn>, NoMemory>
     requires { length bodies.now ≤ 65536 }
@@ -47,7 +55,7 @@ fn ran_in_order(alloc: Global, bodies: &[Body]) -> Result<Vec<Txn>, NoMemory>
     for (number, body) in bodies.iter().enumerate() {
         let txn = ran(alloc, number as u32, body, &txns, &places)?;
         note_writes(&mut places, txn.writes.as_slice(), number as u32)?;
-        txns.push(txn)?;
+        keep(&mut txns, txn)?;
     }
     Ok(txns)
 }

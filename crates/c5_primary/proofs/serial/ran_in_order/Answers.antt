@@ -31,7 +31,7 @@ loop-number-preserved c =
     let txn = c.in_ok-txn.txn in
     let so_far = c.loop-number.invariant in
     let bodies = c.args.bodies.now in
-    let pushed : c.push.new.self.items ≡ txns ++ txn ∷ [] = c.in_ok-push.ensures.items in
+    let pushed : c.keep.new.txns.items ≡ txns ++ txn ∷ [] = c.in_ok-keep.ensures in
     let seen : (name : RowName) → place_at c.note_writes.new.places.entries name ≡ noted txn.writes (length txns) name (place_at places name) =
     λ name. c.in_ok-note_writes.ensures.noted name
     ∙ ap (λ (ws : List Write). noted ws n name (place_at places name)) c.as_slice.ensures.value
