@@ -2,6 +2,6 @@
 # Makes the logs, where they aren't there, and prints how long `c5 apply` takes on them beside md5sum.
 set -eu
 top=$(cd "$(dirname "$0")/.." && pwd)
-[ -f "$top/bench/data/texts.c5s" ] || python3 "$top/bench/inputs.py" "$top/bench/data"
+[ -f "$top/bench/data/puts.c5s" ] || python3 "$top/bench/inputs.py" "$top/bench/data"
 "$top/c5" apply <"$top/examples/first.log" >/dev/null
 exec python3 "$top/bench/command.py" "$top/bench/data" apply

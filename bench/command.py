@@ -9,7 +9,7 @@ RUNS = 7
 TOP = os.path.dirname(os.path.dirname(os.path.abspath(__file__)))
 BESIDE = {"apply": ["md5sum"], "primary": ["env", "LC_ALL=C", "sort"]}
 FILES = {"apply": ("longest.log", "few_rows.log", "many_rows.log", "many_transactions.log", "one_transaction.log"),
-         "primary": ("transfers.c5s", "texts.c5s")}
+         "primary": ("transfers.c5s", "texts.c5s", "puts.c5s")}
 
 
 # Seconds, and the peak of resident memory in MB.

@@ -132,8 +132,14 @@ def texts(out):
     fill(out, b"".join(b"table t%02d text int text\n" % table for table in range(16)), blocks())
 
 
+# As many puts as a script may have, 256 in each transaction, their keys from the last to the first.
+def puts(out):
+    block = b"txn\n" + b"".join(b"put t k%03d 100\n" % (255 - k) for k in range(256)) + b"end\n"
+    fill(out, b"table t int\n", (block for _ in range(1024)))
+
+
 FILES = {"longest": ".log", "few_rows": ".log", "many_rows": ".log", "one_transaction": ".log",
-         "many_transactions": ".log", "transfers": ".c5s", "texts": ".c5s"}
+         "many_transactions": ".log", "transfers": ".c5s", "texts": ".c5s", "puts": ".c5s"}
 
 if __name__ == "__main__":
     folder = sys.argv[1]
