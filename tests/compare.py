@@ -87,6 +87,21 @@ def script_input(rand):
     return ("\n".join(lines) + rand.choice(("\n", "\n", "", "\n\n"))).encode("latin-1")
 
 
+# A script whose bodies set many rows, their names in rising, falling or any order.
+def wide_script(rand):
+    lines = ["table t int int", "table u text int"]
+    for _ in range(rand.randint(1, 12)):
+        keys = [rand.randrange(rand.choice((3, 40, 400))) for _ in range(rand.choice((5, 40, 120)))]
+        rand.choice((keys.sort, lambda: keys.sort(reverse=True), lambda: None))()
+        lines.append("txn")
+        for key in keys:
+            lines += rand.choice(([f"put t k{key:03d} {rand.randrange(-5, 100)} 1"], [f'put u k{key:03d} "x" {key}'],
+                                  [f"put t k{key:03d} 5 5", f"add t k{key:03d} 1 2"], [f"copy u k{key:03d} k{rand.randrange(400):03d}"],
+                                  [f"del {rand.choice('tu')} k{key:03d}"]))
+        lines.append("end")
+    return ("\n".join(lines) + "\n").encode()
+
+
 # Inputs at the limits of their counts: (command, what it is, input).
 def large_inputs():
     acct = [(b"acct", (1,))]
@@ -120,6 +135,7 @@ def main():
         kind = printed.split()[-1].decode() if status in (3, 4) else "ok" if status == 0 else str(status)
         kinds[command, kind] = kinds.get((command, kind), 0) + 1
         results.append(agrees(command, repr(data), data))
+    results += [agrees("primary", repr(data), data) for data in (wide_script(rand) for _ in range(40))]
     results += [agrees(command, name, data) for command, name, data in large_inputs()]
     print("answers:", ", ".join(f"{command} {kind} {n}" for (command, kind), n in sorted(kinds.items())))
     print(f"{results.count(True)} passed, {results.count(False)} failed")
