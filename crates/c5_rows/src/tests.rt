@@ -88,6 +88,9 @@ fn rows_and_columns_have_one_to_eight(rt: HostRuntime) -> Result<(), Fail> {
         assert_eq!(rt; same, changed);
     }
     assert_eq!(rt; row.cells(), &cells[..3]);
+    let mut built = Row::one(Cell::Int(7));
+    built.push(text);
+    assert_eq!(rt; built.cells(), [Cell::Int(7), text].as_slice());
     assert_eq!(rt; text.cell_type(), CellType::Text);
     let types = [CellType::Text; 9];
     assert_eq!(rt; Columns::new(&[]), None);
@@ -143,7 +146,7 @@ fn set(writes: &mut Writes, bytes: &[u8], change: Change) -> Result<(), Fail> {
 
 #[test]
 fn writes_stand_in_order_one_a_row(rt: HostRuntime) -> Result<(), Fail> {
-    let mut writes = Writes::new(rt.alloc());
+    let mut writes = Writes::with_capacity(rt.alloc(), 2)?;
     for bytes in [b"c", b"a", b"d", b"b", b"c"] {
         set(&mut writes, bytes, Change::Gone)?;
     }
