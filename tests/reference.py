@@ -1,151 +1,160 @@
 """A second implementation of `c5`, written from docs/LOG_FORMAT.md and docs/SCRIPT.md alone and as plainly as
-they read, to compare the program with: `python3 tests/reference.py apply|primary < input`."""
+they read, to compare the program with: `python3 tests/reference.py apply|primary < input`.
+
+A refusal also has the tests that the faulty item or line fails, in the order of the document: the first of them
+gives the fault, and the others show whether another order would have given another one."""
 import sys
 
 LIMITS = {"apply": 88_080_384, "primary": 4_194_304}
-KEY = frozenset(range(0x21, 0x7F)) - {0x22}
-TEXT = frozenset(range(0x20, 0x7F)) - {0x22}
-NAME = frozenset(b"abcdefghijklmnopqrstuvwxyz0123456789_")
+KEY = bytes(set(range(0x21, 0x7F)) - {0x22})
+TEXT = bytes(set(range(0x20, 0x7F)) - {0x22})
+PRINTABLE = bytes(range(0x20, 0x7F))
+NAME = b"abcdefghijklmnopqrstuvwxyz0123456789_"
 INT, TEXTS = 1, 2
 LEAST, MOST = -(1 << 63), (1 << 63) - 1
 
 
 class Refused(Exception):
-    def __init__(self, status, line):
+    def __init__(self, status, line, failed=()):
         super().__init__(line)
         self.status = status
         self.line = line
+        self.failed = list(failed)
+
+
+def only(part, allowed):
+    return not part.translate(None, allowed)
 
 
 # ---- the log
 
 class BadLog(Refused):
-    def __init__(self, offset, kind):
-        super().__init__(4, f"bad log at {offset} {kind}\n")
-
-
-class Cursor:
-    def __init__(self, data):
-        self.data = data
-        self.at = 0
-
-    def item(self, size, begin=None):
-        begin = self.at if begin is None else begin
-        if self.at + size > len(self.data):
-            raise BadLog(begin, "cut")
-        part = self.data[self.at:self.at + size]
-        self.at += size
-        return part
+    def __init__(self, offset, kind, failed=()):
+        super().__init__(4, f"bad log at {offset} {kind}\n", failed or [kind])
 
 
 def number_of(part):
     return int.from_bytes(part, "big")
 
 
-def read_tables(cursor):
-    if cursor.item(4) != b"C5L1":
-        raise BadLog(0, "magic")
-    tables = []
+class Log:
+    def __init__(self, data):
+        self.data = data
+        self.at = 0
+        self.tables, self.txns = [], []
+        self.writes, self.stamp = [], 0
 
-    def ranged(low, high):
-        begin = cursor.at
-        n = cursor.item(1)[0]
-        if not low <= n <= high:
-            raise BadLog(begin, "header")
-        return n
+    # The next item, which begins here, has a size and is tested once it is whole.
+    def item(self, size, kind, holds):
+        part = self.data[self.at:self.at + size]
+        if len(part) < size:
+            raise BadLog(self.at, "cut", ["cut"] + [kind] * (not holds(part)))
+        if not holds(part):
+            raise BadLog(self.at, kind)
+        self.at += size
+        return part
 
-    for _ in range(ranged(1, 16)):
-        size = ranged(1, 16)
-        begin = cursor.at
-        name = cursor.item(size)
-        if not set(name) <= NAME or any(name == other for other, _ in tables):
-            raise BadLog(begin, "header")
-        size = ranged(1, 8)
-        begin = cursor.at
-        types = cursor.item(size)
-        if not set(types) <= {INT, TEXTS}:
-            raise BadLog(begin, "header")
-        tables.append((name, tuple(types)))
-    return tables
+    def small(self, most):
+        return self.item(1, "header", lambda part: 1 <= number_of(part) <= most)[0]
+
+    def read_header(self):
+        self.item(4, "magic", lambda part: part == b"C5L1"[:len(part)])
+        for _ in range(self.small(16)):
+            names = [name for name, _ in self.tables]
+            name = self.item(self.small(16), "header", lambda part: only(part, NAME) and part not in names)
+            types = self.item(self.small(8), "header", lambda part: only(part, bytes([INT, TEXTS])))
+            self.tables.append((name, tuple(types)))
+
+    def read(self):
+        self.read_header()
+        while True:
+            frame = Frame(self, self.at)
+            first = next((test for test in FRAME_TESTS if FAILS[test](frame)), None)
+            if first:
+                failed = [test for test in FRAME_TESTS if FAILS[test](frame)]
+                raise BadLog(frame.end if first == "after" else self.at, KINDS.get(first, first), failed)
+            self.at = frame.end
+            if frame.first == b"W":
+                self.writes.append((frame.name, frame.row))
+            elif frame.first == b"C":
+                self.txns.append((number_of(frame.payload[1:5]), frame.stamp, self.writes))
+                self.writes, self.stamp = [], frame.stamp
+            else:
+                return self.tables, self.txns
 
 
-def read_cells(types, rest, bad):
+class Frame:
+    """A frame, whose parts are as far as its bytes go."""
+
+    def __init__(self, log, at):
+        self.log = log
+        length = log.data[at:at + 4]
+        self.has_length = len(length) == 4
+        self.size = number_of(length) if self.has_length else 5
+        self.payload = log.data[at + 4:at + 4 + self.size]
+        self.end = at + 4 + self.size
+        self.first = self.payload[:1]
+        if self.first == b"W":
+            self.table = self.payload[1] if len(self.payload) > 1 else 255
+            key_length = self.payload[2] if len(self.payload) > 2 else 0
+            self.key = self.payload[3:3 + key_length]
+            self.has_key = 1 <= key_length <= 32 and len(self.key) == key_length and only(self.key, KEY)
+            self.name = self.table, self.key
+            self.change = self.payload[3 + key_length:]
+            self.read_change()
+        elif self.first == b"C":
+            self.stamp = number_of(self.payload[5:13])
+
+    def read_change(self):
+        types = self.log.tables[self.table][1] if self.table < len(self.log.tables) else ()
+        self.row, self.has_change = None, self.change == b"\1"
+        if self.change[:1] == b"\0":
+            self.row = read_cells(types, self.change[1:])
+            self.has_change = self.row is not None
+
+
+# The cells, or None where the bytes are not exactly theirs.
+def read_cells(types, rest):
     cells = []
     for cell_type in types:
+        size = 8 if cell_type == INT else 1 + rest[0] if rest else 0
+        part, rest = rest[:size], rest[size:]
+        if not part or len(part) < size:
+            return None
         if cell_type == INT:
-            if len(rest) < 8:
-                bad("cell")
-            cells.append(int.from_bytes(rest[:8], "big", signed=True))
-            rest = rest[8:]
+            cells.append(int.from_bytes(part, "big", signed=True))
+        elif size > 33 or not only(part[1:], TEXT):
+            return None
         else:
-            if not rest or rest[0] > 32 or len(rest) < 1 + rest[0]:
-                bad("cell")
-            text = rest[1:1 + rest[0]]
-            if not set(text) <= TEXT:
-                bad("cell")
-            cells.append(bytes(text))
-            rest = rest[1 + rest[0]:]
-    if rest:
-        bad("cell")
-    return tuple(cells)
+            cells.append(bytes(part[1:]))
+    return None if rest else tuple(cells)
 
 
-def read_write(tables, payload, bad):
-    if len(payload) < 2 or payload[1] >= len(tables):
-        bad("table")
-    types = tables[payload[1]][1]
-    rest = payload[2:]
-    if not rest or not 1 <= rest[0] <= 32 or len(rest) < 1 + rest[0] or not set(rest[1:1 + rest[0]]) <= KEY:
-        bad("key")
-    key = bytes(rest[1:1 + rest[0]])
-    rest = rest[1 + rest[0]:]
-    if not rest or rest[0] > 1:
-        bad("cell")
-    if rest[0] == 1:
-        if len(rest) > 1:
-            bad("cell")
-        return (payload[1], key), None
-    return (payload[1], key), read_cells(types, rest[1:], bad)
+def is_write(frame):
+    return frame.first == b"W"
 
 
-# The tables and the transactions of a log: (script, stamp, [(name, row or None)]).
+# The tests of a frame, in the order of the document: whether it fails.
+FAILS = {
+    "length": lambda frame: not 5 <= frame.size <= 300,
+    "cut": lambda frame: not frame.has_length or len(frame.payload) < frame.size,
+    "kind": lambda frame: frame.first not in (b"W", b"C", b"E"),
+    "size": lambda frame: frame.first == b"C" and frame.size != 17 or frame.first == b"E" and frame.size != 5,
+    "table": lambda frame: is_write(frame) and frame.table >= len(frame.log.tables),
+    "key": lambda frame: is_write(frame) and not frame.has_key,
+    "cell": lambda frame: is_write(frame) and not frame.has_change,
+    "order": lambda frame: is_write(frame) and bool(frame.log.writes) and frame.name <= frame.log.writes[-1][0],
+    "stamp": lambda frame: frame.first == b"C" and frame.stamp <= frame.log.stamp,
+    "count": lambda frame: frame.first == b"C" and number_of(frame.payload[13:17]) != len(frame.log.writes),
+    "end": lambda frame: frame.first == b"E" and (bool(frame.log.writes) or number_of(frame.payload[1:5]) != len(frame.log.txns)),
+    "after": lambda frame: frame.first == b"E" and frame.end < len(frame.log.data),
+}
+FRAME_TESTS = list(FAILS)
+KINDS = {"size": "length"}
+
+
 def read_log(data):
-    cursor = Cursor(data)
-    tables = read_tables(cursor)
-    txns, writes, stamp = [], [], 0
-    while True:
-        begin = cursor.at
-
-        def bad(kind):
-            raise BadLog(begin, kind)
-
-        size = number_of(cursor.item(4))
-        if not 5 <= size <= 300:
-            bad("length")
-        payload = cursor.item(size, begin)
-        if payload[0] not in b"WCE":
-            bad("kind")
-        if payload[:1] == b"C" and size != 17 or payload[:1] == b"E" and size != 5:
-            bad("length")
-        if payload[:1] == b"W":
-            name, row = read_write(tables, payload, bad)
-            if writes and name <= writes[-1][0]:
-                bad("order")
-            writes.append((name, row))
-        elif payload[:1] == b"C":
-            new = number_of(payload[5:13])
-            if new <= stamp:
-                bad("stamp")
-            if number_of(payload[13:17]) != len(writes):
-                bad("count")
-            txns.append((number_of(payload[1:5]), new, writes))
-            writes, stamp = [], new
-        else:
-            if writes or number_of(payload[1:5]) != len(txns):
-                bad("end")
-            if cursor.at < len(data):
-                raise BadLog(cursor.at, "after")
-            return tables, txns
+    return Log(data).read()
 
 
 def spelled(tables, txns):
@@ -190,46 +199,74 @@ def rows_text(tables, state):
 
 # ---- the script
 
-class BadLine(Exception):
-    def __init__(self, kind):
-        super().__init__(kind)
-        self.kind = kind
+class Table:
+    def __init__(self, name, types):
+        self.name, self.types = name, types
 
 
-def need(holds, kind):
-    if not holds:
-        raise BadLine(kind)
-
-
-# The words of a line: (quoted, bytes).
+# The words of a line, (quoted, bytes), and whether each quoted text is closed and stands apart.
 def words_of(line):
-    need(all(0x20 <= byte <= 0x7E for byte in line), "byte")
-    words, at = [], 0
+    words, at, closed = [], 0, True
     while at < len(line):
         if line[at] == 0x20:
             at += 1
-        elif line[at] == 0x22:
+            continue
+        if line[at] == 0x22:
             end = line.find(b'"', at + 1)
-            need(end >= 0, "quote")
+            if end < 0:
+                return words + [(True, line[at + 1:])], False
             words.append((True, line[at + 1:end]))
             at = end + 1
-            need(at == len(line) or line[at] == 0x20, "quote")
+            closed = closed and (at == len(line) or line[at] == 0x20)
         else:
             end = line.find(b" ", at)
             end = len(line) if end < 0 else end
-            need(b'"' not in line[at:end], "quote")
             words.append((False, line[at:end]))
+            closed = closed and b'"' not in line[at:end]
             at = end
-    return words
+    return words, closed
 
 
-def written_number(word):
+# The number that a word is, or None.
+def number_in(word):
     quoted, text = word
     digits = text[1:] if text[:1] == b"-" else text
-    need(not quoted and 1 <= len(digits) <= 19 and digits.isdigit(), "number")
-    n = int(text)
-    need(LEAST <= n <= MOST, "number")
-    return n
+    if quoted or not 1 <= len(digits) <= 19 or not digits.isdigit():
+        return None
+    return int(text) if LEAST <= int(text) <= MOST else None
+
+
+def turn_in(word):
+    quoted, text = word
+    if quoted:
+        return None
+    if text == b"v":
+        return "v", 0
+    if text[:1] in (b"w", b"s") and 2 <= len(text) <= 3 and text[1:].isdigit() and text[1:2] != b"0" and int(text[1:]) <= 16:
+        return text[:1].decode(), int(text[1:])
+    return None
+
+
+# Each statement: which numbers of words it has, and its places. The last place of the first four is repeated.
+STATEMENTS = {
+    b"table": (lambda n: n >= 3, ["NAME", "TYPE"]),
+    b"put": (lambda n: n >= 4, ["T", "K", "CELL"]),
+    b"sum": (lambda n: n >= 4, ["T", "COL", "K"]),
+    b"turns": (lambda n: n >= 2, ["TURN"]),
+    b"txn": (lambda n: n == 1, []),
+    b"del": (lambda n: n == 3, ["T", "K"]),
+    b"need": (lambda n: n == 6, ["T", "K", "COL", "REL", "N"]),
+    b"add": (lambda n: n == 5, ["T", "K", "COL", "N"]),
+    b"copy": (lambda n: n == 4, ["T", "K", "K"]),
+    b"read": (lambda n: n == 2, ["SESSION"]),
+    b"row": (lambda n: n == 3, ["T", "K"]),
+    b"end": (lambda n: n == 1, []),
+    b"log": (lambda n: n == 1, []),
+}
+REPEATED = (b"table", b"put", b"sum", b"turns")
+IN_TXN = (b"put", b"del", b"need", b"add", b"copy")
+IN_READ = (b"row", b"sum")
+RELATIONS = (b"lt", b"le", b"eq", b"ge", b"gt")
 
 
 class Script:
@@ -237,156 +274,139 @@ class Script:
         self.tables, self.bodies, self.reads, self.turns = [], [], [], []
         self.block = None
 
-    def table_number(self, word):
-        found = [n for n, (name, _) in enumerate(self.tables) if not word[0] and name == word[1]]
-        need(found, "table")
-        return found[0]
+    def known(self, front):
+        if self.block is not None:
+            return (IN_TXN if self.block[0] == "txn" else IN_READ) + (b"end",)
+        fresh = not (self.bodies or self.reads or self.turns)
+        later = (b"txn", b"read", b"turns") + (b"log",) * front if self.tables else ()
+        return (b"table",) * fresh + later
 
-    def key(self, word):
-        need(not word[0] and 1 <= len(word[1]) <= 32, "key")
-        return word[1]
+    # Whether the statement is within the limits that are tested before its words are counted.
+    def is_within(self, first, words):
+        lines = self.block[-1] if self.block else []
+        inside = self.block[0] if self.block else None
+        if first == b"table":
+            return len(self.tables) < 16 and len(words) - 2 <= 8
+        if first in IN_TXN:
+            return inside != "txn" or len(lines) < 256
+        if first in IN_READ:
+            return (inside != "read" or len(lines) < 16) and not (first == b"sum" and len(words) - 3 > 16)
+        if first == b"read":
+            return len(self.reads) < 256
+        if first == b"turns":
+            return len(self.turns) + len(words) - 1 <= 65_536
+        return first != b"end" or inside != "read" or len(lines) > 0
 
-    def int_column(self, table, word):
-        need(not word[0] and len(word[1]) == 1 and word[1].isdigit(), "column")
-        col = int(word[1])
-        types = self.tables[table][1]
-        need(col < len(types), "column")
-        need(types[col] == INT, "type")
-        return col
+    # The places of a line that fail, in order, and what its words are: [(place, kind)], [value].
+    def places(self, first, words):
+        names = STATEMENTS[first][1]
+        more = len(words) - 1 - len(names)
+        if first in REPEATED:
+            names = names + names[-1:] * more
+        table, failed, values = None, [], []
+        for number, (place, word) in enumerate(zip(names, words[1:])):
+            value, kind = None, None
+            quoted, text = word
+            if place == "NAME":
+                value = text
+                wrong = quoted or not 1 <= len(text) <= 16 or not only(text, NAME)
+                kind = "name" if wrong or any(text == other.name for other in self.tables) else None
+            elif place == "TYPE":
+                value = {b"int": INT, b"text": TEXTS}.get(text)
+                kind = "type" if quoted or value is None else None
+            elif place == "T":
+                found = [n for n, other in enumerate(self.tables) if not quoted and text == other.name]
+                value, kind = (found[0], None) if found else (None, "table")
+                table = self.tables[found[0]] if found else None
+            elif place == "K":
+                value = text
+                kind = "key" if quoted or not 1 <= len(text) <= 32 else None
+            elif place == "CELL" and table is not None:
+                cell = number - 2
+                if cell == 0 and len(words) - 3 != len(table.types):
+                    failed.append(("CELLS", "count"))
+                if cell < len(table.types):
+                    value, kind = cell_in(table.types[cell], word)
+            elif place == "COL" and table is not None:
+                is_column = not quoted and len(text) == 1 and text.isdigit() and int(text) < len(table.types)
+                value = int(text) if is_column else None
+                kind = "column" if not is_column else "type" if table.types[value] != INT else None
+            elif place == "REL":
+                value = text.decode("latin-1")
+                kind = "word" if quoted or text not in RELATIONS else None
+            elif place == "N":
+                value = number_in(word)
+                kind = "number" if value is None else None
+            elif place == "SESSION":
+                value = number_in(word)
+                kind = "number" if value is None or not 1 <= value <= 16 else None
+            elif place == "TURN":
+                value = turn_in(word)
+                kind = "number" if value is None else None
+            values.append(value)
+            if kind:
+                failed.append((place, kind))
+        return failed, values
 
-    def known(self):
-        if self.block is None:
-            fresh = not (self.bodies or self.reads or self.turns)
-            return ({b"table"} if fresh else set()) | ({b"txn", b"read", b"turns"} if self.tables else set())
-        if self.block[0] == "txn":
-            return {b"put", b"del", b"need", b"add", b"copy", b"end"}
-        return {b"row", b"sum", b"end"}
-
-    # Whether the line ends the script.
-    def take(self, words, front):
+    # Takes a line, and returns whether it ends the script. The tests that it fails: [(test, kind)].
+    def take(self, line, front):
+        words, closed = words_of(line)
+        failed = []
+        if not only(line, PRINTABLE):
+            failed.append(("byte", "byte"))
+        if not closed:
+            failed.append(("quote", "quote"))
         if not words:
-            return False
+            return False, failed
         quoted, first = words[0]
-        known = self.known()
-        if front and self.block is None and self.tables:
-            known = known | {b"log"}
-        need(not quoted and first in known, "word")
-        if first == b"log":
-            need(len(words) == 1, "count")
-            return True
-        getattr(self, first.decode() + "_line")(words)
-        return False
+        if quoted or first not in self.known(front):
+            failed.append(("word", "word"))
+        values = []
+        if not quoted and first in STATEMENTS:
+            if not self.is_within(first, words):
+                failed.append(("limit", "limit"))
+            if not STATEMENTS[first][0](len(words)):
+                failed.append(("count", "count"))
+            places, values = self.places(first, words)
+            failed += places
+        if not failed:
+            self.add(first, values)
+        return not failed and first == b"log", failed
 
-    def table_line(self, words):
-        need(len(self.tables) < 16, "limit")
-        need(len(words) - 2 <= 8, "limit")
-        need(len(words) >= 3, "count")
-        quoted, name = words[1]
-        need(not quoted and 1 <= len(name) <= 16 and set(name) <= NAME, "name")
-        need(all(name != other for other, _ in self.tables), "name")
-        types = []
-        for quoted, word in words[2:]:
-            need(not quoted and word in (b"int", b"text"), "type")
-            types.append(INT if word == b"int" else TEXTS)
-        self.tables.append((name, tuple(types)))
-
-    def txn_line(self, words):
-        need(len(words) == 1, "count")
-        self.block = ("txn", [])
-
-    def read_line(self, words):
-        need(len(self.reads) < 256, "limit")
-        need(len(words) == 2, "count")
-        session = written_number(words[1])
-        need(1 <= session <= 16, "number")
-        self.block = ("read", session, [])
-
-    def turns_line(self, words):
-        need(len(self.turns) + len(words) - 1 <= 65_536, "limit")
-        need(len(words) >= 2, "count")
-        for quoted, word in words[1:]:
-            if not quoted and word == b"v":
-                self.turns.append(("v", 0))
-                continue
-            need(not quoted and word[:1] in (b"w", b"s") and len(word) in (2, 3) and word[1:].isdigit(), "number")
-            n = int(word[1:])
-            need(word[1:2] != b"0" and 1 <= n <= 16, "number")
-            self.turns.append((word[:1].decode(), n))
-
-    def end_line(self, words):
-        if self.block[0] == "read":
-            need(self.block[2], "limit")
-        need(len(words) == 1, "count")
-        if self.block[0] == "txn":
-            self.bodies.append(self.block[1])
-        else:
-            self.reads.append((self.block[1], self.block[2]))
-        self.block = None
-
-    def statement(self, words, holds, make):
-        need(len(self.block[1]) < 256, "limit")
-        need(holds, "count")
-        self.block[1].append(make())
-
-    def name(self, words):
-        table = self.table_number(words[1])
-        return table, self.key(words[2])
-
-    def put_line(self, words):
-        def make():
-            table, key = self.name(words)
-            types = self.tables[table][1]
-            need(len(words) - 3 == len(types), "count")
-            row = []
-            for cell_type, word in zip(types, words[3:]):
-                if cell_type == INT:
-                    need(not word[0], "type")
-                    row.append(written_number(word))
-                else:
-                    need(word[0], "type")
-                    need(len(word[1]) <= 32, "limit")
-                    row.append(word[1])
-            return "put", (table, key), tuple(row)
-        self.statement(words, len(words) >= 4, make)
-
-    def del_line(self, words):
-        self.statement(words, len(words) == 3, lambda: ("del", self.name(words)))
-
-    def need_line(self, words):
-        def make():
-            name = self.name(words)
-            col = self.int_column(name[0], words[3])
-            need(not words[4][0] and words[4][1] in (b"lt", b"le", b"eq", b"ge", b"gt"), "word")
-            return "need", name, col, words[4][1].decode(), written_number(words[5])
-        self.statement(words, len(words) == 6, make)
-
-    def add_line(self, words):
-        def make():
-            name = self.name(words)
-            return "add", name, self.int_column(name[0], words[3]), written_number(words[4])
-        self.statement(words, len(words) == 5, make)
-
-    def copy_line(self, words):
-        def make():
-            table = self.table_number(words[1])
-            return "copy", (table, self.key(words[2])), (table, self.key(words[3]))
-        self.statement(words, len(words) == 4, make)
-
-    def row_line(self, words):
-        need(len(self.block[2]) < 16, "limit")
-        need(len(words) == 3, "count")
-        self.block[2].append(("row", self.name(words)))
-
-    def sum_line(self, words):
-        need(len(self.block[2]) < 16, "limit")
-        need(len(words) - 3 <= 16, "limit")
-        need(len(words) >= 4, "count")
-        table = self.table_number(words[1])
-        col = self.int_column(table, words[2])
-        self.block[2].append(("sum", table, col, [self.key(word) for word in words[3:]]))
+    def add(self, first, values):
+        if first == b"table":
+            self.tables.append(Table(values[0], tuple(values[1:])))
+        elif first == b"txn":
+            self.block = ("txn", [])
+        elif first == b"read":
+            self.block = ("read", values[0], [])
+        elif first == b"turns":
+            self.turns += values
+        elif first == b"end":
+            (self.bodies if self.block[0] == "txn" else self.reads).append(self.block[1:] if self.block[0] == "read" else self.block[1])
+            self.block = None
+        elif first == b"put":
+            self.block[-1].append(("put", (values[0], values[1]), tuple(values[2:])))
+        elif first == b"copy":
+            self.block[-1].append(("copy", (values[0], values[1]), (values[0], values[2])))
+        elif first == b"sum":
+            self.block[-1].append(("sum", values[0], values[1], values[2:]))
+        elif first != b"log":
+            self.block[-1].append((first.decode(), (values[0], values[1]), *values[2:]))
 
 
-# The script, and what follows its `log` line where it is read as a front.
+# The cell that a word is in a column of this type, and the kind of its fault.
+def cell_in(cell_type, word):
+    quoted, text = word
+    if quoted == (cell_type == INT):
+        return None, "type"
+    if cell_type == INT:
+        value = number_in(word)
+        return value, "number" if value is None else None
+    return text, "limit" if len(text) > 32 else None
+
+
+# The script, and what follows its `log` line where a log is to follow it.
 def read_script(data, front=False):
     lines = data.split(b"\n")
     if not lines[-1]:
@@ -394,13 +414,13 @@ def read_script(data, front=False):
     script, at = Script(), 0
     for number, line in enumerate(lines, 1):
         at += len(line) + 1
-        try:
-            if script.take(words_of(line), front):
-                return script, data[at:]
-        except BadLine as fault:
-            raise Refused(3, f"bad script line {number} {fault.kind}\n") from None
+        ended, failed = script.take(line, front)
+        if failed:
+            raise Refused(3, f"bad script line {number} {failed[0][1]}\n", [test for test, _ in failed])
+        if ended:
+            return script, data[at:]
     if front or script.block is not None or not script.tables:
-        raise Refused(3, f"bad script line {len(lines) + 1} unclosed\n")
+        raise Refused(3, f"bad script line {len(lines) + 1} unclosed\n", ["unclosed"])
     return script, b""
 
 
@@ -480,20 +500,20 @@ def apply(data):
 def primary(data):
     script, _ = read_script(data)
     check_limits(script)
-    return spelled(script.tables, run_serial(script))
+    return spelled([(table.name, table.types) for table in script.tables], run_serial(script))
 
 
-# The status and the bytes that the command prints for an input.
+# The status and the bytes that the command prints for an input, and the tests that the input fails.
 def answer(command, data):
     if len(data) > LIMITS[command]:
-        return 8, b"too long\n"
+        return 8, b"too long\n", []
     try:
-        return 0, {"apply": apply, "primary": primary}[command](data)
+        return 0, {"apply": apply, "primary": primary}[command](data), []
     except Refused as refused:
-        return refused.status, refused.line.encode()
+        return refused.status, refused.line.encode(), refused.failed
 
 
 if __name__ == "__main__":
-    status, printed = answer(sys.argv[1], sys.stdin.buffer.read())
+    status, printed, _ = answer(sys.argv[1], sys.stdin.buffer.read())
     sys.stdout.buffer.write(printed)
     sys.exit(status)

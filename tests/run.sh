@@ -1,78 +1,166 @@
 #!/bin/sh
-# Runs the built program on each case below tests/: a folder with the words of the command line (words, one a
-# line), the standard input (input; or zeros, a number of zero bytes; or from, a path; behind the input, so many
-# lines of the text of repeat over and over), the path that standard output goes to (to, where it isn't kept),
-# the output (or its size alone) and the exit status that are wanted. Then each script of examples/ goes through
-# `primary` and `apply`, and a second implementation answers inputs made from a seed, where there is a python3.
+# Tests the built program, and ends with a line `N passed, M failed`:
+#   - the cases of tests/*.cases, each file by the command that it is named after;
+#   - the tables of faults in docs/, from the documents themselves;
+#   - each command that a document shows with its output (a fenced block `console`), from the documents;
+#   - examples/: each script's log and rows;
+#   - inputs made from a seed, compared with a second implementation (tests/compare.py), if there is a python3.
 set -u
+LC_ALL=C
+export LC_ALL
 top=$(cd "$(dirname "$0")/.." && pwd)
+program="$top/crates/c5/out/c5"
 got=$(mktemp -d) || exit 1
 trap 'rm -rf "$got"' EXIT
+trap 'exit 1' HUP INT TERM
 passed=0
 failed=0
 
-input_of() {
-    if [ -f "$1/zeros" ]; then
-        head -c "$(cat "$1/zeros")" /dev/zero
-        return
-    fi
-    cat "$1/input"
-    if [ -f "$1/repeat" ]; then
-        yes "$(cat "$1/repeat")" | head -n "$(cat "$1/lines")"
+pass() {
+    passed=$((passed + 1))
+}
+
+fail() {
+    failed=$((failed + 1))
+    echo "$1"
+}
+
+# ---- one case
+
+begin_case() {
+    name="$1"
+    words="$command"
+    shown=
+    from="$got/input"
+    to="$got/output"
+    size=
+    wanted=
+    : >"$got/input"
+    : >"$got/wanted"
+}
+
+# Adds N times the bytes of these escapes, which are so many lines, to the input.
+add_part() {
+    if [ "$1" -eq 1 ]; then
+        printf '%b' "$3" >>"$got/input"
+    else
+        yes "$(printf '%b' "$3")" | head -n $(($1 * $2)) >>"$got/input"
     fi
 }
 
-run_case() {
-    set --
-    while IFS= read -r word; do
-        set -- "$@" "$word"
-    done <"$case/words"
-    to="$got/output"
-    : >"$to"
-    [ -f "$case/to" ] && to=$(cat "$case/to")
-    if [ -f "$case/from" ]; then
-        "$top/c5" "$@" <"$(cat "$case/from")" >"$to" 2>"$got/errors"
-    else
-        input_of "$case" >"$got/input" 2>/dev/null
-        "$top/c5" "$@" <"$got/input" >"$to" 2>"$got/errors"
-    fi
+run_program() {
+    # The words of a case have no spaces.
+    # shellcheck disable=SC2086
+    "$program" $words <"$from" >"$to" 2>"$got/errors"
+}
+
+run_shown() {
+    (cd "$top" && exec bash -c "$shown") </dev/null >"$got/output" 2>"$got/errors"
 }
 
 is_wanted() {
-    if [ -f "$case/size" ]; then
-        [ "$(wc -c <"$got/output")" -eq "$(cat "$case/size")" ]
+    [ "$to" = "$got/output" ] || return 0
+    if [ -n "$size" ]; then
+        [ "$(wc -c <"$got/output")" -eq "$size" ]
     else
-        cmp -s "$got/output" "$case/output"
+        cmp -s "$got/output" "$got/wanted"
     fi
 }
 
-for case in "$top"/tests/*/*/; do
-    case=${case%/}
-    name=${case#"$top"/tests/}
-    run_case
+end_case() {
+    : >"$got/output"
+    if [ -n "$shown" ]; then run_shown; else run_program; fi
     status=$?
-    if [ "$status" != "$(cat "$case/status")" ]; then
-        echo "$name: status $status, not $(cat "$case/status")"
-        failed=$((failed + 1))
+    if [ -n "$wanted" ] && [ "$status" != "$wanted" ]; then
+        fail "$file: $name: status $status, not $wanted"
     elif ! is_wanted; then
-        echo "$name: another output:"
-        head -c 300 "$got/output"
-        failed=$((failed + 1))
+        fail "$file: $name: another output:"
+        head -c 300 "$got/output" "$got/errors" | tr -c '[:print:]\n' '?'
     else
-        passed=$((passed + 1))
+        pass
+    fi
+}
+
+# Does the steps of $got/steps, which cases.awk or documents.awk printed.
+run_steps() {
+    while IFS= read -r step; do
+        what=${step%% *}
+        rest=${step#* }
+        case "$what" in
+            case) begin_case "$rest" ;;
+            words) words="$rest" ;;
+            shown) shown="$rest" ;;
+            from) from="$rest" ;;
+            to) to="$rest" ;;
+            zeros) head -c "$rest" /dev/zero >>"$got/input" ;;
+            part)
+                times=${rest%% *}
+                rest=${rest#* }
+                add_part "$times" "${rest%% *}" "${rest#* }"
+                ;;
+            status) wanted="$rest" ;;
+            size) size="$rest" ;;
+            output) printf '%b' "$rest" >"$got/wanted" ;;
+            run) end_case ;;
+            *) fail "$step" ;;
+        esac
+    done <"$got/steps"
+}
+
+# Runs the cases of a file, under the name that is shown, by a command.
+run_cases() {
+    file="$2"
+    command="$3"
+    awk -v file="$file" -f "$top/tests/cases.awk" "$1" >"$got/steps"
+    grep -q '^run' "$got/steps" || fail "$file: no case was found"
+    run_steps
+}
+
+# ---- what is tested
+
+# The program is built here, if it isn't yet.
+"$top/c5" apply <"$top/examples/first.log" >/dev/null || exit 1
+
+for cases in "$top"/tests/*.cases; do
+    command=$(basename "$cases" .cases)
+    run_cases "$cases" "tests/$command.cases" "$command"
+done
+
+for table in LOG_FORMAT.md:apply SCRIPT.md:primary; do
+    document=${table%:*}
+    awk -v of=faults -f "$top/tests/documents.awk" "$top/docs/$document" >"$got/cases"
+    run_cases "$got/cases" "docs/$document" "${table#*:}"
+done
+
+(cd "$top" && awk -v of=commands -f tests/documents.awk README.md docs/*.md $(ls crates/*/README.md 2>/dev/null)) >"$got/steps"
+grep -q '^run' "$got/steps" || fail "README.md: no command was found"
+file=documents
+command=
+run_steps
+
+for script in "$top"/examples/*.c5s; do
+    file=examples/$(basename "$script")
+    "$program" primary <"$script" >"$got/log" && "$program" apply <"$got/log" >"$got/output"
+    if ! cmp -s "$got/output" "${script%.c5s}.rows"; then
+        fail "$file: other rows"
+    elif [ -f "${script%.c5s}.log" ] && ! cmp -s "$got/log" "${script%.c5s}.log"; then
+        fail "$file: another log"
+    else
+        pass
     fi
 done
 
-for script in "$top"/examples/*.c5s; do
-    "$top/c5" primary <"$script" >"$got/log" && "$top/c5" apply <"$got/log" >"$got/output"
-    if cmp -s "$got/output" "${script%.c5s}.rows"; then
-        passed=$((passed + 1))
-    else
-        echo "$script: other rows"
-        failed=$((failed + 1))
-    fi
-done
+if command -v python3 >/dev/null 2>&1; then
+    python3 "$top/tests/compare.py" >"$got/compared"
+    status=$?
+    cat "$got/compared"
+    counts=$(tail -n 1 "$got/compared" | sed -n 's/^\([0-9]*\) passed, \([0-9]*\) failed$/\1 \2/p')
+    passed=$((passed + ${counts%% *}))
+    failed=$((failed + ${counts##* }))
+    [ -n "$counts" ] && [ "$status" -eq 0 -o "${counts##* }" != 0 ] || fail "tests/compare.py: ended with status $status"
+else
+    echo "tests/compare.py: skipped, as there is no python3: the program was not compared with the second implementation"
+fi
+
 echo "$passed passed, $failed failed"
-[ "$failed" -eq 0 ] || exit 1
-command -v python3 >/dev/null 2>&1 || exit 0
-exec python3 "$top/tests/compare.py"
+[ "$failed" -eq 0 ]
