@@ -33,7 +33,7 @@ def longest(out):
         assert len(name) == 16
         out.write(text(name) + bytes([8]) + bytes([2] * 8))
     for number in range(TRANSACTIONS):
-        # Four rows that lie far apart, so that the tree of rows is entered at random.
+        # Four rows far apart from each other, so that the tree of rows is entered at random.
         rows = sorted((number * 4 + k) * 40_503 % 65_536 for k in range(WRITES))
         for row in rows:
             key = b"key_%028d" % row
@@ -57,7 +57,7 @@ def few_rows(out):
     out.write(end(TRANSACTIONS))
 
 
-# 65,536 transactions of 4 writes over 64,000 rows that lie far apart.
+# 65,536 transactions of 4 writes over 64,000 rows far apart from each other.
 def many_rows(out):
     out.write(ONE_TABLE)
     for number in range(TRANSACTIONS):

@@ -1,5 +1,5 @@
 #!/bin/sh
-# Makes the scripts, where they aren't there, and prints how long `c5 primary` takes on them beside sort.
+# Makes the inputs, if they aren't there, and prints how long `c5 primary` takes on them beside sort, as rows of README.md's table.
 set -eu
 top=$(cd "$(dirname "$0")/.." && pwd)
 [ -f "$top/bench/data/puts.c5s" ] || python3 "$top/bench/inputs.py" "$top/bench/data"
