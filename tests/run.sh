@@ -150,6 +150,38 @@ for script in "$top"/examples/*.c5s; do
     fi
 done
 
+# The script c5 in a copy of the repository without its sources, with the rt that is given as its text: what it prints,
+# and what it says on standard error.
+run_script() {
+    rm -rf "$got/copy"
+    for crate in $(sed -n 's/^\([a-z0-9_]*\):.*/\1/p' "$top/crates.txt"); do
+        mkdir -p "$got/copy/crates/$crate/src"
+    done
+    mkdir "$got/copy/bin"
+    cp -R "$top/c5" "$top/crates.txt" "$top/examples" "$got/copy"
+    if [ -n "$1" ]; then
+        printf '%s\n' '#!/bin/sh' "$1" >"$got/copy/bin/rt"
+        chmod +x "$got/copy/bin/rt"
+    fi
+    PATH="$got/copy/bin:/usr/bin:/bin" "$got/copy/c5" apply <"$top/examples/first.log" >"$got/output" 2>"$got/errors"
+}
+
+file=c5
+if run_script "[ \$1 = lib ] || { mkdir out && cp '$program' out/c5; }" && grep -q '^rows 1$' "$got/output" &&
+    [ "$(grep -c '^c5: [0-9]* of [0-9]*: ' "$got/errors")" -ge 10 ]; then
+    pass
+else
+    fail "c5: a first run doesn't build the program crate by crate, or doesn't run it"
+fi
+if run_script "echo no proof; exit 1" || ! grep -q '^no proof$' "$got/errors" || ! grep -q '^c5: .* was not proved' "$got/errors"; then
+    fail "c5: a failed proof isn't reported"
+else
+    pass
+fi
+if ! (PATH=/usr/bin:/bin && command -v rt >/dev/null); then
+    if run_script "" || ! grep -q '^c5: .*needs rt' "$got/errors"; then fail "c5: rt isn't said to be missing"; else pass; fi
+fi
+
 if command -v python3 >/dev/null 2>&1; then
     python3 "$top/tests/compare.py" >"$got/compared"
     status=$?
