@@ -1,6 +1,7 @@
 #!/bin/sh
-# Prints the names in backquotes in README.md and docs/ that are in no file of the repository, and links that lead
-# nowhere. A word is taken for a name if it has an underscore, or a capital letter after its first.
+# Prints what documents cite and the repository lacks: links that lead nowhere; clauses, in the columns `clause` of
+# README.md and docs/PROOFS.md; and other names in backquotes, if they have an underscore or a capital letter after
+# their first one.
 set -u
 cd "$(dirname "$0")/.." || exit 1
 for document in README.md docs/*.md crates/*/README.md; do
@@ -9,5 +10,15 @@ for document in README.md docs/*.md crates/*/README.md; do
     done
     grep -o '](\([^)]*\))' "$document" | sed 's/](//; s/)$//; s/#.*//' | grep -v '^http\|^$' | sort -u | while read -r link; do
         [ -e "$(dirname "$document")/$link" ] || echo "$document: link $link"
+    done
+done
+awk '
+    /^\|/ && column == 0 && !inside { n = split($0, cells, "|"); for (i = 2; i < n; i++) if (cells[i] ~ /^ clause/) column = i }
+    { inside = /^\|/ }
+    !inside { column = 0 }
+    inside && column && !/^\|[- |]*$/ && !/ clause/ { split($0, cells, "|"); print FILENAME "|" cells[column] }
+' README.md docs/PROOFS.md | while IFS='|' read -r document cell; do
+    printf '%s\n' "$cell" | sed 's/`[^`]*` of `.*//; s/ of `[^`]*`//' | grep -o '`[a-z_]*`' | tr -d '`' | while read -r clause; do
+        git grep -q "ensures $clause " -- 'crates/*/src/*.rt' || echo "$document: clause $clause"
     done
 done
