@@ -67,6 +67,13 @@ is_wanted() {
     fi
 }
 
+# Standard error has one line for a status 2, 5, 6 or 7, and else none.
+is_explained() {
+    lines=0
+    case "$status" in 2 | 5 | 6 | 7) lines=$explains ;; esac
+    [ "$(wc -l <"$got/errors")" -eq "$lines" ] && [ "$(grep -c '^c5: ' "$got/errors")" -eq "$lines" ]
+}
+
 end_case() {
     : >"$got/output"
     if [ -n "$shown" ]; then run_shown; else run_program; fi
@@ -76,6 +83,9 @@ end_case() {
     elif ! is_wanted; then
         fail "$file: $name: another output:"
         head -c 300 "$got/output" "$got/errors" | tr -c '[:print:]\n' '?'
+    elif [ -z "$shown" ] && ! is_explained; then
+        fail "$file: $name: another text on standard error:"
+        head -c 300 "$got/errors"
     else
         pass
     fi
@@ -120,6 +130,9 @@ run_cases() {
 
 # The program is built here, if it isn't yet.
 "$top/c5" apply <"$top/examples/first.log" >/dev/null || exit 1
+
+# How many lines the program writes to standard error for bad words: 1 if it explains such statuses.
+explains=$("$program" frob </dev/null 2>&1 >/dev/null | grep -c '^c5: ')
 
 for cases in "$top"/tests/*.cases; do
     command=$(basename "$cases" .cases)
