@@ -6,7 +6,7 @@ import subprocess
 import sys
 import time
 
-RUNS = 7
+RUNS = 21
 TOP = os.path.dirname(os.path.dirname(os.path.abspath(__file__)))
 PROGRAM = os.path.join(TOP, "crates", "c5", "out", "c5")
 BESIDE = {"apply": "md5sum", "primary": "sort"}
