@@ -1,4 +1,4 @@
+pub use Rattle.c5_rows.specs.Counts
 pub mod Adapters
-pub mod Causes
 pub mod Memory
 pub mod Whole

@@ -61,8 +61,8 @@ abbrev pub write_count : SinkState → ℕ → ℕ
 write_count s len = min (min s.step (s.room - length s.held)) len
 
 -- a sink that took these bytes
-abbrev pub after_write : SinkState → List ℕ → SinkState
-after_write s taken = record s { held = s.held ++ taken; calls = next_call s.calls; flushed = false }
+abbrev pub after_taken : SinkState → List ℕ → SinkState
+after_taken s taken = record s { held = s.held ++ taken; calls = next_call s.calls; flushed = false }
 
 -- a sink after a flush that was Ok
 abbrev pub after_flush : SinkState → SinkState

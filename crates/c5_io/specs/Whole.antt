@@ -2,19 +2,19 @@
 use Rattle.std.specs.Prelude.{◌≡◌, ℕ, ◌<◌, ◌≤◌, List, length, take, Result, IsErrOf, OnOk}
 use Rattle.std.specs.declared.option.Option.{Option}
 use Rattle.std.specs.Io.KnownBytes.{Appends, Consumes}
-use Rattle.c5_io.specs.Causes.{Rose}
+use Rattle.c5_rows.specs.Counts.{Rose}
 use Rattle.c5_io.specs.declared.errors.InFault.{InFault}
 use Rattle.c5_io.specs.declared.errors.InFault.TheVariants.{Failed, TooLong, NoMemory}
 
--- a source lost exactly n bytes, where its bytes are told
+-- a source lost exactly n bytes, if its bytes are known
 abbrev pub Loses : Option (List ℕ) → Option (List ℕ) → ℕ → Type 0
 Loses old new n = (bytes : List ℕ) × (length bytes ≡ n) × Consumes old new bytes
 
--- a source lost at most n bytes, where its bytes are told
+-- a source lost at most n bytes, if its bytes are known
 abbrev pub LosesAtMost : Option (List ℕ) → Option (List ℕ) → ℕ → Type 0
 LosesAtMost old new n = (bytes : List ℕ) × (length bytes ≤ n) × Consumes old new bytes
 
--- a sink took some of the bytes from the front, and not all, where it tells
+-- a sink took a proper prefix of the bytes, if its bytes are known
 abbrev pub AppendsPart : Option (List ℕ) → Option (List ℕ) → List ℕ → Type 0
 AppendsPart old new bytes = (n : ℕ) × (n < length bytes) × Appends old new (take n bytes)
 

@@ -1,15 +1,15 @@
 ghost use Rattle.std.specs.Prelude.{[], ◌≡◌, ◌+◌, ◌≤◌, ◌<◌, ◌↔◌, min, length, take, drop, ◌++◌, Contains, Some, IfOk, IsOk, IsErr, OnOk, OnErr, is_ok, false, Ok};
 ghost use Rattle.std.specs.Io.{ReadsAtMost, WritesAtMost};
 ghost use Rattle.std.specs.Io.KnownBytes.{ReadConsumes, WriteAppends, Keeps};
-ghost use Rattle.c5_io.specs.Causes.{HasCause};
-ghost use Rattle.c5_io.specs.Memory.{SourceState, ReadFails, read_count, after_read, after_failed_read, FailsByNumber, WriteFails, write_count, after_write, after_flush, after_failed_call};
+ghost use Rattle.c5_rows.specs.Counts.{HasCause};
+ghost use Rattle.c5_io.specs.Memory.{SourceState, ReadFails, read_count, after_read, after_failed_read, FailsByNumber, WriteFails, write_count, after_taken, after_flush, after_failed_call};
 
 use crate::{Failed, Sink, Source};
 use c5_rows::NoMemory;
 use std::alloc::Global;
 use std::marker::Model;
 
-/// A source of bytes in memory, whose calls fail where it was told so.
+/// A source of bytes in memory. The calls of given numbers fail.
 #[derive(Debug, Drop)]
 pub struct MemorySource {
     bytes: Vec<u8>,
@@ -137,7 +137,7 @@ fn copy_front(from: &[u8], into: &mut [u8], most: usize) -> usize
     count
 }
 
-/// A sink in memory, whose calls fail where it was told so, and where it is full.
+/// A sink in memory. The calls of given numbers fail, and so does a write when it is full.
 #[derive(Debug, Drop)]
 pub struct MemorySink {
     bytes: Vec<u8>,
@@ -214,7 +214,7 @@ impl Sink for MemorySink {
         // The same, exactly.
         ensures fails { IsErr result ↔ WriteFails self.old piece.now }
         ensures count { IfOk result (λ n. n ≡ write_count self.old (length piece.now)) }
-        ensures ok { IfOk result (λ n. self.new ≡ after_write self.old (take n piece.now)) }
+        ensures ok { IfOk result (λ n. self.new ≡ after_taken self.old (take n piece.now)) }
         ensures err { OnErr result (self.new ≡ after_failed_call self.old) }
     {
         self.calls = self.calls.saturating_add(1);

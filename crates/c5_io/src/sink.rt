@@ -1,13 +1,13 @@
 ghost use Rattle.std.specs.Prelude.{◌≡◌, ◌<◌, List, ℕ, Option, Bool, false, is_ok, length, IfOk};
 ghost use Rattle.std.specs.Io.{WritesAtMost};
 ghost use Rattle.std.specs.Io.KnownBytes.{Keeps, WriteAppends};
-ghost use Rattle.c5_io.specs.Causes.{HasCause};
+ghost use Rattle.c5_rows.specs.Counts.{HasCause};
 
 use crate::Failed;
 
 /// Where bytes go to.
 pub trait Sink {
-    /// The bytes that were taken so far, where they are told.
+    /// The bytes that were taken so far, if they are known.
     ghost held: { Self → Option (List ℕ) };
 
     /// How often a call has failed. The count never falls, and stops at `u64::MAX`.

@@ -1,13 +1,13 @@
 ghost use Rattle.std.specs.Prelude.{List, ℕ, Option};
 ghost use Rattle.std.specs.Io.{ReadsAtMost};
 ghost use Rattle.std.specs.Io.KnownBytes.{ReadConsumes};
-ghost use Rattle.c5_io.specs.Causes.{HasCause};
+ghost use Rattle.c5_rows.specs.Counts.{HasCause};
 
 use crate::Failed;
 
 /// Where bytes come from.
 pub trait Source {
-    /// The bytes still to come, where they are told.
+    /// The bytes still to come, if they are known.
     ghost left: { Self → Option (List ℕ) };
 
     /// How often a call has failed. The count never falls, and stops at `u64::MAX`.

@@ -1,6 +1,6 @@
 ghost use Rattle.std.specs.Prelude.{◌≡◌, ◌+◌, ◌-◌, ◌^◌, ◌<◌, ◌≤◌, false, List, ℕ, length, take, drop, vec_len, IfOk, IfSome, OnOk, OnErr, IsErrOf, []};
 ghost use Rattle.std.specs.Io.KnownBytes.{Appends, Consumes, IsAtEnd, Keeps};
-ghost use Rattle.c5_io.specs.Causes.{HasCause};
+ghost use Rattle.c5_rows.specs.Counts.{HasCause};
 ghost use Rattle.c5_io.specs.Whole.{Loses, LosesAtMost, AppendsPart, HasReadCause};
 
 use crate::{Failed, InFault, Sink, Source};
@@ -10,8 +10,8 @@ use std::alloc::{AllocError, Global};
 // small enough to stay in a processor's cache between the zeros and the bytes.
 const CHUNK: usize = 128 * 1024;
 
-/// Reads to the end of the source. It takes at most `limit + 1` bytes, and is `TooLong` where it
-/// took that many.
+/// Reads to the end of the source. It takes at most `limit + 1` bytes, and reports `TooLong` as soon as
+/// it has taken that many; `Failed` and `NoMemory` come before that.
 pub fn read_all<S: Source>(alloc: Global, source: &mut S, limit: usize) -> Result<Vec<u8>, InFault>
     requires { limit < usize.MAX }
 
@@ -24,7 +24,8 @@ pub fn read_all<S: Source>(alloc: Global, source: &mut S, limit: usize) -> Resul
     // Otherwise the bytes that were taken are lost.
     ensures too_long { IsErrOf result InFault.TooLong → IfSome (S.left source.old) (λ left. limit < length left) }
     ensures one_more { IsErrOf result InFault.TooLong → Loses (S.left source.old) (S.left source.new) (limit + 1) }
-    ensures part { OnErr result (LosesAtMost (S.left source.old) (S.left source.new) (limit + 1)) }
+    ensures failed { IsErrOf result InFault.Failed → LosesAtMost (S.left source.old) (S.left source.new) limit }
+    ensures no_memory { IsErrOf result InFault.NoMemory → LosesAtMost (S.left source.old) (S.left source.new) limit }
 
     ensures cause { HasReadCause (S.faults source.old) (S.faults source.new) result }
 {

@@ -1,5 +1,5 @@
 -- The finite map that the entries of a tree make.
-use Rattle.std.proofs.Common.{◌≡◌, ◌+◌, ℕ, cond, List, [], ◌∷◌, ◌++◌, Option, Some, None, Bool, true, false, Box, length, map, take, get_or, ◌<◌, suc, refl, ap, sym, subst, ◌∙◌, Less}
+use Rattle.std.proofs.Common.{◌≡◌, ◌+◌, ℕ, cond, List, [], ◌∷◌, ◌++◌, Option, Some, None, Bool, true, false, length, map, take, get_or, ◌<◌, suc, refl, ap, sym, subst, ◌∙◌, Less}
 use Rattle.std.specs.FinMap.{empty, get, insert, remove, len, entries, from_entries, find, put, same_map, get-insert, get-remove, get-from_entries, len-entries, entries-insert, len-empty}
 use Rattle.std.specs.Ordering.{eq_by_cmp}
 use Rattle.std.specs.BTreeMap.{is_at}
@@ -13,7 +13,7 @@ use Rattle.c5_rows.specs.declared.cells.Cell.{Cell}
 use Rattle.c5_rows.specs.declared.writes.RowName.{RowName}
 use Rattle.c5_rows.specs.declared.writes.Write.{Write}
 use Rattle.c5_rows.specs.State.{State, after_change, after_writes}
-use Rattle.c5_rows.specs.Boxes.{unboxed}
+use Rattle.c5_rows.specs.Held.{rows_held}
 use Rattle.c5_rows.specs.Order.{row_name_cmp, row_name_cmp_total, row_name_cmp_exact}
 
 -- what a tree has at a name
@@ -38,52 +38,52 @@ one_gone es fs name h = same_map row_name_cmp_total row_name_cmp_exact _ _ (λ q
     get_row fs q ∙ h q ∙ ap (λ b. cond b None (row_at es q)) ((eq_by_cmp_equiv row_name_cmp_total).symm name q)
     ∙ sym (get-remove row_name_cmp_total (from_entries es) name q ∙ ap (cond (eq_by_cmp row_name_cmp q name) None) (get_row es q)))
 
--- ---- rows that have blocks of their own
+-- ---- rows as values hold them
 
-keys_unboxed : {A : Type 0} (es : List (RowName × Box (List Cell) A)) → map (λ e. e.0) (unboxed es) ≡ map (λ e. e.0) es
-keys_unboxed [] = refl
-keys_unboxed (e ∷ es) = ap (λ names. e.0 ∷ names) (keys_unboxed es)
+keys_held : {H : Type 0} (row : H → List Cell) (es : List (RowName × H)) → map (λ e. e.0) (rows_held row es) ≡ map (λ e. e.0) es
+keys_held row [] = refl
+keys_held row (e ∷ es) = ap (λ names. e.0 ∷ names) (keys_held row es)
 
--- what a tree of blocks has at a name
-abbrev pub box_at : {A : Type 0} → List (RowName × Box (List Cell) A) → RowName → Option (Box (List Cell) A)
-box_at es name = lookup (is_at (row_name_cmp name)) es
+-- what a tree has at a name
+abbrev pub held_at : {H : Type 0} → List (RowName × H) → RowName → Option H
+held_at es name = lookup (is_at (row_name_cmp name)) es
 
-pub row_at_unboxed : {A : Type 0} (es : List (RowName × Box (List Cell) A)) (name : RowName) → row_at (unboxed es) name ≡ option_map (λ box. box.value) (box_at es name)
-row_at_unboxed [] name = refl
-row_at_unboxed {A} (e ∷ es) name = by (is_at (row_name_cmp name) e.0) (row_at_unboxed es name)
+pub row_at_held : {H : Type 0} (row : H → List Cell) (es : List (RowName × H)) (name : RowName) → row_at (rows_held row es) name ≡ option_map row (held_at es name)
+row_at_held row [] name = refl
+row_at_held {H} row (e ∷ es) name = by (is_at (row_name_cmp name) e.0) (row_at_held row es name)
   where
-    by : (b : Bool) → row_at (unboxed es) name ≡ option_map (λ (box : Box (List Cell) A). box.value) (box_at es name) → cond b (Some e.1.value) (row_at (unboxed es) name) ≡ option_map (λ (box : Box (List Cell) A). box.value) (cond b (Some e.1) (box_at es name))
+    by : (b : Bool) → row_at (rows_held row es) name ≡ option_map row (held_at es name) → cond b (Some (row e.1)) (row_at (rows_held row es) name) ≡ option_map row (cond b (Some e.1) (held_at es name))
     by true same = refl
     by false same = same
 
-chosen : {A : Type 0} (b : Bool) (box : Box (List Cell) A) (other : Option (Box (List Cell) A)) → option_map (λ (box : Box (List Cell) A). box.value) (cond b (Some box) other) ≡ cond b (Some box.value) (option_map (λ (box : Box (List Cell) A). box.value) other)
-chosen true box other = refl
-chosen false box other = refl
+chosen : {H : Type 0} (row : H → List Cell) (b : Bool) (held : H) (other : Option H) → option_map row (cond b (Some held) other) ≡ cond b (Some (row held)) (option_map row other)
+chosen row true held other = refl
+chosen row false held other = refl
 
-passed : {A : Type 0} (b : Bool) (other : Option (Box (List Cell) A)) → option_map (λ (box : Box (List Cell) A). box.value) (cond b None other) ≡ cond b None (option_map (λ (box : Box (List Cell) A). box.value) other)
-passed true other = refl
-passed false other = refl
+passed : {H : Type 0} (row : H → List Cell) (b : Bool) (other : Option H) → option_map row (cond b None other) ≡ cond b None (option_map row other)
+passed row true other = refl
+passed row false other = refl
 
-pub box_set : {A : Type 0} (es fs : List (RowName × Box (List Cell) A)) (name : RowName) (box : Box (List Cell) A) → ((q : RowName) → box_at fs q ≡ cond (is_at (row_name_cmp name) q) (Some box) (box_at es q)) → from_entries {R = row_name_cmp} (unboxed fs) ≡ insert (from_entries (unboxed es)) name box.value
-box_set {A} es fs name box h = one_set (unboxed es) (unboxed fs) name box.value (λ q.
-    row_at_unboxed fs q
-    ∙ ap (option_map (λ (box : Box (List Cell) A). box.value)) (h q)
-    ∙ chosen (is_at (row_name_cmp name) q) box (box_at es q)
-    ∙ ap (cond (is_at (row_name_cmp name) q) (Some box.value)) (sym (row_at_unboxed es q)))
+pub held_set : {H : Type 0} (row : H → List Cell) (es fs : List (RowName × H)) (name : RowName) (held : H) → ((q : RowName) → held_at fs q ≡ cond (is_at (row_name_cmp name) q) (Some held) (held_at es q)) → from_entries {R = row_name_cmp} (rows_held row fs) ≡ insert (from_entries (rows_held row es)) name (row held)
+held_set row es fs name held h = one_set (rows_held row es) (rows_held row fs) name (row held) (λ q.
+    row_at_held row fs q
+    ∙ ap (option_map row) (h q)
+    ∙ chosen row (is_at (row_name_cmp name) q) held (held_at es q)
+    ∙ ap (cond (is_at (row_name_cmp name) q) (Some (row held))) (sym (row_at_held row es q)))
 
-pub box_gone : {A : Type 0} (es fs : List (RowName × Box (List Cell) A)) (name : RowName) → ((q : RowName) → box_at fs q ≡ cond (is_at (row_name_cmp name) q) None (box_at es q)) → from_entries {R = row_name_cmp} (unboxed fs) ≡ remove (from_entries (unboxed es)) name
-box_gone {A} es fs name h = one_gone (unboxed es) (unboxed fs) name (λ q.
-    row_at_unboxed fs q
-    ∙ ap (option_map (λ (box : Box (List Cell) A). box.value)) (h q)
-    ∙ passed (is_at (row_name_cmp name) q) (box_at es q)
-    ∙ ap (cond (is_at (row_name_cmp name) q) None) (sym (row_at_unboxed es q)))
+pub held_gone : {H : Type 0} (row : H → List Cell) (es fs : List (RowName × H)) (name : RowName) → ((q : RowName) → held_at fs q ≡ cond (is_at (row_name_cmp name) q) None (held_at es q)) → from_entries {R = row_name_cmp} (rows_held row fs) ≡ remove (from_entries (rows_held row es)) name
+held_gone row es fs name h = one_gone (rows_held row es) (rows_held row fs) name (λ q.
+    row_at_held row fs q
+    ∙ ap (option_map row) (h q)
+    ∙ passed row (is_at (row_name_cmp name) q) (held_at es q)
+    ∙ ap (cond (is_at (row_name_cmp name) q) None) (sym (row_at_held row es q)))
 
 -- entries one for one with the same names and rows
-pub same_unboxed : {A : Type 0} (es fs : List (RowName × Box (List Cell) A)) → AllZip (λ p q. (q.0 ≡ p.0) × (q.1.value ≡ p.1.value)) es fs → unboxed fs ≡ unboxed es
-same_unboxed [] [] all = refl
-same_unboxed [] (f ∷ fs) all = absurd all
-same_unboxed (e ∷ es) [] all = absurd all
-same_unboxed (e ∷ es) (f ∷ fs) all = rw (all.0.0, all.0.1, same_unboxed es fs all.1) refl
+pub same_held : {H : Type 0} (row : H → List Cell) (es fs : List (RowName × H)) → AllZip (λ p q. (q.0 ≡ p.0) × (row q.1 ≡ row p.1)) es fs → rows_held row fs ≡ rows_held row es
+same_held row [] [] all = refl
+same_held row [] (f ∷ fs) all = absurd all
+same_held row (e ∷ es) [] all = absurd all
+same_held row (e ∷ es) (f ∷ fs) all = rw (all.0.0, all.0.1, same_held row es fs all.1) refl
 
 -- ---- the entries in order
 
@@ -91,13 +91,13 @@ put_first : (name : RowName) (row : List Cell) (es : List (RowName × List Cell)
 put_first name row [] below = refl
 put_first name row (e ∷ es) below = rw below.0 refl
 
--- the names of blocks that ascend do so without them
-pub up_unboxed : {A : Type 0} (es : List (RowName × Box (List Cell) A)) → IsStrictlySortedBy row_name_cmp (map (λ e. e.0) es) → IsStrictlySortedBy row_name_cmp (map (λ e. e.0) (unboxed es))
-up_unboxed es up = subst (IsStrictlySortedBy row_name_cmp) (sym (keys_unboxed es)) up
+-- names that ascend do so beside the rows
+pub up_held : {H : Type 0} (row : H → List Cell) (es : List (RowName × H)) → IsStrictlySortedBy row_name_cmp (map (λ e. e.0) es) → IsStrictlySortedBy row_name_cmp (map (λ e. e.0) (rows_held row es))
+up_held row es up = subst (IsStrictlySortedBy row_name_cmp) (sym (keys_held row es)) up
 
-pub length_unboxed : {A : Type 0} (es : List (RowName × Box (List Cell) A)) → length (unboxed es) ≡ length es
-length_unboxed [] = refl
-length_unboxed (e ∷ es) = ap suc (length_unboxed es)
+pub length_held : {H : Type 0} (row : H → List Cell) (es : List (RowName × H)) → length (rows_held row es) ≡ length es
+length_held row [] = refl
+length_held row (e ∷ es) = ap suc (length_held row es)
 
 -- the map gives back entries that ascend
 pub entries_back : (es : List (RowName × List Cell)) → IsStrictlySortedBy row_name_cmp (map (λ e. e.0) es) → entries (from_entries {R = row_name_cmp} es) ≡ es

@@ -3,6 +3,7 @@ use Rattle.std.specs.Prelude.{◌≤◌, ◌&&◌, ◌||◌, ◌==◌, ℕ, Bool
 use Rattle.std.specs.List.{list_all}
 use Rattle.c5_rows.specs.declared.names.Bad.{Bad}
 use Rattle.c5_rows.specs.declared.names.Bad.TheVariants.{Length, Byte}
+use Rattle.c5_rows.specs.Sizes.{max_key_bytes, max_text_bytes, max_name_bytes}
 
 -- the bytes from low to high, both of them included
 abbrev pub is_between : ℕ → ℕ → ℕ → Bool
@@ -26,17 +27,17 @@ pub record AreBytes (least most : ℕ) (allowed : ℕ → Bool) (bytes : List �
   pub no_longer : length bytes ≤ most
   pub each : IsTrue (list_all allowed bytes)
 
--- 1 to 32 bytes of a key
+-- the bytes of a key
 abbrev pub IsKey : List ℕ → Type 0
-IsKey = AreBytes 1 32 is_key_byte
+IsKey = AreBytes 1 max_key_bytes is_key_byte
 
--- 0 to 32 bytes of a text
+-- the bytes of a text, which may be empty
 abbrev pub IsText : List ℕ → Type 0
-IsText = AreBytes 0 32 is_text_byte
+IsText = AreBytes 0 max_text_bytes is_text_byte
 
--- 1 to 16 bytes of a table's name
+-- the bytes of a table's name
 abbrev pub IsTableName : List ℕ → Type 0
-IsTableName = AreBytes 1 16 is_name_byte
+IsTableName = AreBytes 1 max_name_bytes is_name_byte
 
 -- the bytes, or what is wrong with them: their number first
 abbrev pub checked_bytes : ℕ → ℕ → (ℕ → Bool) → List ℕ → Result (List ℕ) Bad

@@ -1,5 +1,6 @@
--- Which writes fit a schema.
-use Rattle.std.specs.Prelude.{◌≡◌, List, map, MatchOption, slice_get}
+-- Which rows and writes fit the tables of a schema.
+use Rattle.std.specs.Prelude.{◌≡◌, ℕ, List, map, MatchOption, slice_get}
+use Rattle.c5_rows.specs.declared.cells.Cell.{Cell}
 use Rattle.c5_rows.specs.declared.cells.CellType.{CellType}
 use Rattle.c5_rows.specs.declared.tables.TableDef.{TableDef}
 use Rattle.c5_rows.specs.declared.writes.Change.{Change}
@@ -7,9 +8,17 @@ use Rattle.c5_rows.specs.declared.writes.Change.TheVariants.{Put, Gone}
 use Rattle.c5_rows.specs.declared.writes.Write.{Write}
 use Rattle.c5_rows.specs.Cells.{type_of}
 
--- the cells of a put have the types of the columns
+-- the cells have the types of the columns, one for one
+abbrev pub RowFitsColumns : List Cell → List CellType → Type 0
+RowFitsColumns row columns = map type_of row ≡ columns
+
+-- there is a table of this number, and the cells have the types of its columns
+abbrev pub RowFits : List TableDef → ℕ → List Cell → Type 0
+RowFits tables number row = MatchOption (slice_get tables number) ⊥ (λ table. RowFitsColumns row table.columns)
+
+-- the row of a put fits the columns; a gone fits any
 abbrev pub FitsColumns : Change → List CellType → Type 0
-FitsColumns (Put row) columns = map type_of row ≡ columns
+FitsColumns (Put row) columns = RowFitsColumns row columns
 FitsColumns Gone columns = Unit {0}
 
 -- the table of the write exists, and its columns take the change

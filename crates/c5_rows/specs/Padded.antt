@@ -1,8 +1,7 @@
 -- A short list held in an array: its items first, and then one blank as often as fits.
 use Rattle.std.specs.Prelude.{◌≡◌, ◌<◌, ◌≤◌, ◌-◌, ◌+◌, ◌++◌, ◌∷◌, [], ℕ, List, length, take, drop, replicate}
 use Rattle.std.proofs.Common.{arith, sym, ◌∙◌, ap, set}
-use Rattle.std.proofs.lemmas.List.{length-take, length-append, length-replicate, length-set, drop-replicate, drop-drop, drop-set-lt, drop_at, take_at, take-append-drop, take_more_set}
-use Rattle.std.proofs.Math.Seq.{take-set-lt}
+use Rattle.std.proofs.lemmas.List.{length-take, length-append, length-replicate, length-set, length-drop, drop-replicate, drop-drop, drop-set-lt, drop_at, take_at, take-append-drop, take_more_set}
 
 -- the array has its size, and past the length it has blanks alone
 pub record IsPadded {X : Type 0} (blank : X) (size len : ℕ) (cells : List X) : Type 0 where
@@ -26,7 +25,7 @@ padded-take blank size len cells p =
     ∙ ap (λ xs. take len cells ++ xs) (sym p.padding)
     ∙ take-append-drop len cells
 
--- items copied over the front of an array of blanks
+-- items copied over the first places of an array of blanks
 pub IsPadded-copied : {X : Type 0} (blank : X) (size : ℕ) (items front : List X) → length items ≤ size → front ≡ items → IsPadded blank size (length items) (front ++ drop (length items) (replicate size blank))
 IsPadded-copied blank size items front le same =
     let n = length items in
@@ -42,14 +41,18 @@ IsPadded-copied blank size items front le same =
 pub take-copied : {X : Type 0} (blank : X) (size : ℕ) (items front : List X) → front ≡ items → take (length items) (front ++ drop (length items) (replicate size blank)) ≡ items
 take-copied blank size items front same = take_at front (drop (length items) (replicate size blank)) (length items) (ap length same) ∙ same
 
--- ---- a write, and one more item
+-- ---- other items, and one more item
 
-pub IsPadded-set : {X : Type 0} (blank : X) (size len i : ℕ) (x : X) (cells : List X) → IsPadded blank size len cells → i < len → IsPadded blank size len (set cells i x)
-IsPadded-set blank size len i x cells p lt = record {
+-- other items in place of all of them
+pub IsPadded-front : {X : Type 0} (blank : X) (size len : ℕ) (front cells : List X) → length front ≡ len → IsPadded blank size len cells → IsPadded blank size len (front ++ drop len cells)
+IsPadded-front blank size len front cells same p = record {
   fits = p.fits;
-  full = length-set cells i x ∙ p.full;
-  padding = drop-set-lt len cells i x lt ∙ p.padding;
+  full = let fits = p.fits in let full = p.full in omega (arith, length-append front (drop len cells), length-drop len cells);
+  padding = drop_at front (drop len cells) len same ∙ p.padding;
 }
+
+pub take-front : {X : Type 0} (len : ℕ) (front cells : List X) → length front ≡ len → take len (front ++ drop len cells) ≡ front
+take-front len front cells same = take_at front (drop len cells) len same
 
 pub IsPadded-push : {X : Type 0} (blank : X) (size len : ℕ) (x : X) (cells : List X) → IsPadded blank size len cells → len < size → IsPadded blank size (len + 1) (set cells len x)
 IsPadded-push blank size len x cells p lt =
@@ -63,9 +66,6 @@ IsPadded-push blank size len x cells p lt =
           ∙ drop-replicate 1 (size - len) blank
           ∙ ap (λ (n : ℕ). replicate n blank) less;
     }
-
-pub take-set-within : {X : Type 0} (len i : ℕ) (x : X) (cells : List X) → i < len → take len (set cells i x) ≡ set (take len cells) i x
-take-set-within len i x cells lt = take-set-lt len cells i x lt
 
 pub take-set-push : {X : Type 0} (size len : ℕ) (x : X) (cells : List X) → length cells ≡ size → len < size → take (len + 1) (set cells len x) ≡ take len cells ++ x ∷ []
 take-set-push size len x cells full lt = take_more_set cells len x (omega arith)

@@ -7,16 +7,19 @@ use Rattle.c5_rows.specs.declared.writes.RowName.{RowName}
 use Rattle.c5_rows.specs.declared.writes.Change.{Change}
 use Rattle.c5_rows.specs.declared.writes.Write.{Write}
 use Rattle.c5_rows.specs.Order.{row_name_cmp}
+use Rattle.c5_rows.specs.Ascending.{IsBelowFirstBy, IsAscendingBy}
+
+-- the first of two names comes before the other
+abbrev pub IsNameBelow : RowName → RowName → Type 0
+IsNameBelow a b = row_name_cmp a b ≡ Less
 
 -- the first of the writes, if there is one, has a greater name
 abbrev pub IsBelowFirst : RowName → List Write → Type 0
-IsBelowFirst name [] = Unit {0}
-IsBelowFirst name (write ∷ writes) = row_name_cmp name write.name ≡ Less
+IsBelowFirst = IsBelowFirstBy IsNameBelow (λ write. write.name)
 
 -- each name is above the one before it
 abbrev pub IsAscending : List Write → Type 0
-IsAscending [] = Unit {0}
-IsAscending (write ∷ writes) = IsBelowFirst write.name writes × IsAscending writes
+IsAscending = IsAscendingBy IsNameBelow (λ write. write.name)
 
 -- the change of the row of this name
 abbrev pub change_of : RowName → List Write → Option Change

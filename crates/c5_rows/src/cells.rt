@@ -1,9 +1,12 @@
 //! Cells, and rows of them.
 
 ghost use Rattle.std.specs.Prelude.{◌≡◌, ◌≤◌, ◌<◌, ◌++◌, ◌∷◌, [], length, slice_set};
-ghost use Rattle.c5_rows.specs.Cells.{type_of, one_to_eight};
+ghost use Rattle.c5_rows.specs.Cells.{type_of, row_or_none};
+ghost use Rattle.c5_rows.specs.Sizes.{max_columns};
 
 use crate::names::TextCell;
+use crate::padded::{Blank, Padded};
+use crate::sizes::MAX_COLUMNS;
 use std::marker::Model;
 
 /// The type of a column.
@@ -36,28 +39,44 @@ impl Cell {
     }
 }
 
+impl Blank for CellType {
+    ghost use Rattle.c5_rows.specs.declared.cells.CellType.TheVariants.{Int};
+
+    ghost blank_value = { Int };
+
+    fn blank() -> Self {
+        CellType::Int
+    }
+}
+
+impl Blank for Cell {
+    ghost use Rattle.std.specs.Prelude.{pos};
+    ghost use Rattle.c5_rows.specs.declared.cells.Cell.TheVariants.{Int};
+
+    ghost blank_value = { Int (pos 0) };
+
+    fn blank() -> Self {
+        Cell::Int(0)
+    }
+}
+
 /// A row: 1 to 8 cells, held in the value itself.
 #[derive(Clone, Copy, Debug, PartialEq, Eq)]
 pub struct Row {
-    cells: [Cell; 8],
-    len: u8,
+    cells: Padded<Cell, MAX_COLUMNS>,
 }
 
 impl Model for Row {
-    ghost use Rattle.std.specs.Prelude.{List, length, take};
+    ghost use Rattle.std.specs.Prelude.{◌≤◌, List, length};
     ghost use Rattle.c5_rows.specs.declared.cells.Cell.{Cell};
-    ghost use Rattle.c5_rows.specs.Padded.{padded, padded-take, length-of_padded};
-    ghost use Rattle.c5_rows.specs.Cells.{IsShort, blank_cell};
 
     ghost Value = { List Cell };
 
-    ghost view = { λ r. take r.len r.cells };
+    ghost view = { λ r. r.cells };
 
-    ghost invariant = { λ r. IsShort blank_cell r.len r.cells };
+    ghost invariant = { λ r. 1 ≤ length r.cells };
 
-    ghost inverse = { λ items. record { cells = padded blank_cell 8 items; len = length items } };
-
-    ghost inverse_ok = { λ r h i. record { cells = padded-take blank_cell 8 r.len r.cells h.form i; len = length-of_padded blank_cell 8 r.len r.cells h.form i } };
+    ghost inverse = { λ items. record { cells = items } };
 }
 
 impl Row {
@@ -65,35 +84,28 @@ impl Row {
     pub fn one(cell: Cell) -> Self
         ensures { result ≡ cell ∷ [] }
     {
-        let mut row = Row {
-            cells: [Cell::Int(0); 8],
-            len: 1,
-        };
-        row.cells[0] = cell;
-        row
+        let mut cells = Padded::new();
+        cells.push(cell);
+        Row { cells }
     }
 
     /// Adds a cell at the end.
     pub fn push(&mut self, cell: Cell)
-        requires { length self.old < 8 }
+        requires { length self.old < max_columns }
         ensures { self.new ≡ self.old ++ cell ∷ [] }
     {
-        self.cells[self.len as usize] = cell;
-        self.len += 1;
+        self.cells.push(cell);
     }
 
-    /// The row of these cells; `None` exactly where there are not 1 to 8.
+    /// The row of these cells; `None` if there are fewer than 1 or more than 8.
     pub fn new(cells: &[Cell]) -> Option<Self>
-        ensures { result ≡ one_to_eight cells.now }
+        ensures { result ≡ row_or_none cells.now }
     {
-        if cells.is_empty() || cells.len() > 8 {
+        if cells.is_empty() || cells.len() > MAX_COLUMNS {
             return None;
         }
-        let mut padded = [Cell::Int(0); 8];
-        padded[..cells.len()].copy_from_slice(cells);
         Some(Row {
-            cells: padded,
-            len: cells.len() as u8,
+            cells: Padded::copied(cells),
         })
     }
 
@@ -101,26 +113,26 @@ impl Row {
     pub fn cells(&self) -> &[Cell]
         ensures value { result.now ≡ self.now }
         ensures some { 1 ≤ length self.now }
-        ensures at_most_eight { length self.now ≤ 8 }
+        ensures few { length self.now ≤ max_columns }
     {
-        &self.cells[..self.len as usize]
+        self.cells.as_slice()
     }
 
-    /// The row with another cell in column `col`, which counts from 0.
+    /// The row with another cell in column `col`, counted from 0.
     pub fn with(&self, col: u8, cell: Cell) -> Self
         requires { col < length self.now }
         ensures { result ≡ slice_set self.now col cell }
     {
         let mut row = *self;
-        row.cells[col as usize] = cell;
+        row.set(col, cell);
         row
     }
 
-    /// Replaces the cell in column `col`, which counts from 0.
+    /// Replaces the cell in column `col`, counted from 0.
     pub fn set(&mut self, col: u8, cell: Cell)
         requires { col < length self.old }
         ensures { self.new ≡ slice_set self.old col cell }
     {
-        self.cells[col as usize] = cell;
+        self.cells.set(col, cell);
     }
 }

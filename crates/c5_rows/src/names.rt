@@ -3,16 +3,18 @@
 ghost use Rattle.std.specs.Prelude.{◌≡◌, length};
 ghost use Rattle.std.specs.List.{list_all};
 ghost use Rattle.c5_rows.specs.Bytes.{is_key_byte, is_text_byte, is_name_byte, IsKey, IsText, IsTableName, checked_bytes};
+ghost use Rattle.c5_rows.specs.Sizes.{max_key_bytes, max_text_bytes, max_name_bytes};
 
-use crate::short::Short;
+use crate::padded::{Blank, Padded};
+use crate::sizes::{MAX_KEY_BYTES, MAX_NAME_BYTES, MAX_TEXT_BYTES};
 use std::marker::Model;
 
-/// Why bytes are no key, no text or no name of a table.
+/// Why bytes aren't a key, a text or the name of a table.
 #[derive(Clone, Copy, Debug, PartialEq, Eq)]
 pub enum Bad {
     /// There are too few or too many bytes.
     Length,
-    /// A byte is not allowed.
+    /// A byte isn't allowed.
     Byte,
 }
 
@@ -34,8 +36,9 @@ fn is_name_byte(byte: u8) -> bool
     byte.is_ascii_lowercase() || byte.is_ascii_digit() || byte == b'_'
 }
 
-// Each byte is tested, also behind one that is not allowed: so there is no branch in the loop.
-fn are_key_bytes(bytes: &[u8]) -> bool
+/// Whether each of these bytes is allowed in a key.
+// Every byte is tested, even after one that isn't allowed, so that the loop has no branch.
+pub fn are_key_bytes(bytes: &[u8]) -> bool
     ensures { result ≡ list_all is_key_byte bytes.now }
 {
     let mut all = true;
@@ -45,7 +48,8 @@ fn are_key_bytes(bytes: &[u8]) -> bool
     all
 }
 
-fn are_text_bytes(bytes: &[u8]) -> bool
+/// Whether each of these bytes is allowed in a text.
+pub fn are_text_bytes(bytes: &[u8]) -> bool
     ensures { result ≡ list_all is_text_byte bytes.now }
 {
     let mut all = true;
@@ -65,7 +69,7 @@ fn are_name_bytes(bytes: &[u8]) -> bool
 /// Keys are ordered by their bytes; a proper prefix comes first.
 #[derive(Clone, Copy, Debug, PartialEq, Eq, PartialOrd, Ord)]
 pub struct Key {
-    bytes: Short<32>,
+    bytes: Padded<u8, MAX_KEY_BYTES>,
 }
 
 impl Model for Key {
@@ -81,20 +85,32 @@ impl Model for Key {
     ghost inverse = { λ items. record { bytes = items } };
 }
 
+impl Blank for Key {
+    ghost use Rattle.std.specs.Prelude.{[], ◌∷◌};
+
+    ghost blank_value = { 48 ∷ [] };
+
+    fn blank() -> Self {
+        Key {
+            bytes: Padded::copied(b"0"),
+        }
+    }
+}
+
 impl Key {
-    /// The key of these bytes. `Length` exactly where their number is not 1 to 32;
-    /// else `Byte` exactly where one of them is not allowed.
+    /// The key of these bytes. `Length` if there are fewer than 1 or more than 32;
+    /// otherwise `Byte` if one of them isn't allowed.
     pub fn new(bytes: &[u8]) -> Result<Self, Bad>
-        ensures { result ≡ checked_bytes 1 32 is_key_byte bytes.now }
+        ensures { result ≡ checked_bytes 1 max_key_bytes is_key_byte bytes.now }
     {
-        if bytes.len() < 1 || bytes.len() > 32 {
+        if bytes.is_empty() || bytes.len() > MAX_KEY_BYTES {
             return Err(Bad::Length);
         }
         if !are_key_bytes(bytes) {
             return Err(Bad::Byte);
         }
         Ok(Key {
-            bytes: Short::new(bytes),
+            bytes: Padded::copied(bytes),
         })
     }
 
@@ -110,7 +126,7 @@ impl Key {
 /// The text of a cell: 0 to 32 bytes, each from `20` to `7E` (hexadecimal) and not `22`.
 #[derive(Clone, Copy, Debug, PartialEq, Eq, PartialOrd, Ord)]
 pub struct TextCell {
-    bytes: Short<32>,
+    bytes: Padded<u8, MAX_TEXT_BYTES>,
 }
 
 impl Model for TextCell {
@@ -127,19 +143,19 @@ impl Model for TextCell {
 }
 
 impl TextCell {
-    /// The text of these bytes. `Length` exactly where there are more than 32;
-    /// else `Byte` exactly where one of them is not allowed.
+    /// The text of these bytes. `Length` if there are more than 32;
+    /// otherwise `Byte` if one of them isn't allowed.
     pub fn new(bytes: &[u8]) -> Result<Self, Bad>
-        ensures { result ≡ checked_bytes 0 32 is_text_byte bytes.now }
+        ensures { result ≡ checked_bytes 0 max_text_bytes is_text_byte bytes.now }
     {
-        if bytes.len() > 32 {
+        if bytes.len() > MAX_TEXT_BYTES {
             return Err(Bad::Length);
         }
         if !are_text_bytes(bytes) {
             return Err(Bad::Byte);
         }
         Ok(TextCell {
-            bytes: Short::new(bytes),
+            bytes: Padded::copied(bytes),
         })
     }
 
@@ -155,7 +171,7 @@ impl TextCell {
 /// The name of a table: 1 to 16 bytes of `a-z`, `0-9` and `_`.
 #[derive(Clone, Copy, Debug, PartialEq, Eq, PartialOrd, Ord)]
 pub struct TableName {
-    bytes: Short<16>,
+    bytes: Padded<u8, MAX_NAME_BYTES>,
 }
 
 impl Model for TableName {
@@ -171,20 +187,32 @@ impl Model for TableName {
     ghost inverse = { λ items. record { bytes = items } };
 }
 
+impl Blank for TableName {
+    ghost use Rattle.std.specs.Prelude.{[], ◌∷◌};
+
+    ghost blank_value = { 48 ∷ [] };
+
+    fn blank() -> Self {
+        TableName {
+            bytes: Padded::copied(b"0"),
+        }
+    }
+}
+
 impl TableName {
-    /// The name of these bytes. `Length` exactly where their number is not 1 to 16;
-    /// else `Byte` exactly where one of them is not allowed.
+    /// The name of these bytes. `Length` if there are fewer than 1 or more than 16;
+    /// otherwise `Byte` if one of them isn't allowed.
     pub fn new(bytes: &[u8]) -> Result<Self, Bad>
-        ensures { result ≡ checked_bytes 1 16 is_name_byte bytes.now }
+        ensures { result ≡ checked_bytes 1 max_name_bytes is_name_byte bytes.now }
     {
-        if bytes.len() < 1 || bytes.len() > 16 {
+        if bytes.is_empty() || bytes.len() > MAX_NAME_BYTES {
             return Err(Bad::Length);
         }
         if !are_name_bytes(bytes) {
             return Err(Bad::Byte);
         }
         Ok(TableName {
-            bytes: Short::new(bytes),
+            bytes: Padded::copied(bytes),
         })
     }
 

@@ -1,7 +1,8 @@
 //! Rows by their names.
 
-ghost use Rattle.std.specs.Prelude.{◌≡◌, ◌<◌, length, take, OnOk, OnErr, IfOk, IfErr};
-ghost use Rattle.std.specs.Option.{option_copied};
+ghost use Rattle.std.specs.Prelude.{◌≡◌, ◌<◌, List, length, take, OnOk, OnErr, IfOk, IfErr};
+ghost use Rattle.std.specs.Option.{option_copied, option_map};
+ghost use Rattle.c5_rows.specs.declared.cells.Cell.{Cell};
 ghost use Rattle.std.specs.FinMap as map;
 
 use crate::cells::Row;
@@ -18,21 +19,38 @@ pub struct RowEntry {
     pub row: Row,
 }
 
-/// Memory was refused after the first `writes` writes of a transaction; the others don't stand.
+/// Out of memory after the first `writes` writes of a transaction. The others were not made.
 #[derive(Clone, Copy, Debug, PartialEq, Eq)]
 pub struct Applied {
     pub writes: usize,
 }
 
-/// Rows by their names: a finite map.
-// A row has a block of its own: the nodes of the tree stay small, and no row moves when one comes or goes.
-#[derive(Debug, Drop)]
-pub struct Rows {
-    alloc: Global,
-    rows: BTreeMap<RowName, Box<Row>>,
+/// How a map holds a row: in a block of its own, or borrowed from where it is.
+pub trait HeldRow: Drop {
+    ghost row_held: { Self → List Cell };
+
+    /// The row.
+    fn to_row(&self) -> Row
+        ensures { result ≡ row_held self.now };
 }
 
-impl Model for Rows {
+// A block of its own: the nodes of the tree stay small, and no row moves when one comes or goes.
+impl HeldRow for Box<Row> {
+    ghost row_held = { λ block. block.value };
+
+    fn to_row(&self) -> Row {
+        **self
+    }
+}
+
+/// Rows by their names: a finite map, generic over how it holds a row.
+#[derive(Drop)]
+pub struct RowMap<H: HeldRow> {
+    alloc: Global,
+    rows: BTreeMap<RowName, H>,
+}
+
+impl<H: HeldRow> Model for RowMap<H> {
     ghost use Rattle.std.specs.Prelude.{List};
     ghost use Rattle.std.specs.FinMap as map;
     ghost use Rattle.std.specs.BTreeMap.{IsOrdered};
@@ -40,63 +58,38 @@ impl Model for Rows {
     ghost use Rattle.c5_rows.specs.declared.cells.Cell.{Cell};
     ghost use Rattle.c5_rows.specs.Cells.{coded_cell};
     ghost use Rattle.c5_rows.specs.Order.{row_name_cmp, coded_row_name};
-    ghost use Rattle.c5_rows.specs.Boxes.{unboxed};
+    ghost use Rattle.c5_rows.specs.Held.{rows_held};
 
     ghost Value = { map.FinMap row_name_cmp (List Cell) };
 
     ghost coded = { map.code coded_row_name (coded_list coded_cell) };
 
-    ghost view = { λ r. map.from_entries (unboxed r.rows.entries) };
+    ghost view = { λ r. map.from_entries (rows_held H.row_held r.rows.entries) };
 
     ghost invariant = { λ r. IsOrdered row_name_cmp r.rows };
 }
 
 ghost use Rattle.c5_rows.specs.State.{after_change, after_writes, rows_of};
 ghost use Rattle.c5_rows.specs.Order.{row_name_cmp};
-ghost use Rattle.c5_rows.specs.Boxes.{unboxed};
+ghost use Rattle.c5_rows.specs.Held.{rows_held};
 ghost use Rattle.std.specs.BTreeMap.{IsOrdered, IsUnchanged};
 
-// Sets a row. One that stands is written over where it lies.
-fn put(
-    alloc: Global,
-    rows: &mut BTreeMap<RowName, Box<Row>>,
-    name: &RowName,
-    row: &Row,
-) -> Result<(), NoMemory>
-    requires { IsOrdered row_name_cmp rows.old }
-    ensures ordered { IsOrdered row_name_cmp rows.new }
-    ensures ok { OnOk result (map.from_entries {R = row_name_cmp} (unboxed rows.new.entries) ≡ map.insert (map.from_entries (unboxed rows.old.entries)) name.now row.now) }
-    ensures err { OnErr result (IsUnchanged rows.old rows.new) }
-{
-    match rows.get_mut(name) {
-        Some(old) => **old = *row,
-        None => {
-            let block = Box::new(alloc, *row)?;
-            rows.insert(*name, block)?;
-        }
-    }
-    Ok(())
-}
-
-impl Rows {
+impl<H: HeldRow> RowMap<H> {
     /// No rows.
     pub fn new(alloc: Global) -> Self
         ensures { result ≡ map.empty }
     {
-        Rows {
+        RowMap {
             alloc,
             rows: BTreeMap::new(alloc),
         }
     }
 
-    /// The row of this name; `None` exactly where there is none.
-    pub fn get(&self, name: &RowName) -> Option<&Row>
-        ensures { option_copied result ≡ map.get self.now name.now }
+    /// The row of this name, as it is held; `None` if there is none.
+    pub fn find(&self, name: &RowName) -> Option<&H>
+        ensures { option_map H.row_held (option_copied result) ≡ map.get self.now name.now }
     {
-        match self.rows.get(name) {
-            Some(row) => Some(&**row),
-            None => None,
-        }
+        self.rows.get(name)
     }
 
     /// The number of rows.
@@ -111,44 +104,100 @@ impl Rows {
         ensures { IfOk result (λ list. list.items ≡ rows_of self.now) }
     {
         let mut list = Vec::with_capacity(alloc, self.rows.len())?;
-        for (name, row) in self.rows.iter() {
+        for (name, held) in self.rows.iter() {
             list.push(RowEntry {
                 name: *name,
-                row: **row,
+                row: held.to_row(),
             })?;
         }
         Ok(list)
+    }
+
+    /// Sets the row of this name. After `NoMemory` the rows are as they were.
+    pub fn put(&mut self, name: &RowName, held: H) -> Result<(), NoMemory>
+        ensures ok { OnOk result (self.new ≡ map.insert self.old name.now (H.row_held held)) }
+        ensures err { OnErr result (self.new ≡ self.old) }
+    {
+        self.rows.insert(*name, held)?;
+        Ok(())
+    }
+
+    /// Removes the row of this name, if there is one.
+    pub fn remove(&mut self, name: &RowName)
+        ensures { self.new ≡ map.remove self.old name.now }
+    {
+        self.rows.remove(name);
+    }
+}
+
+// Sets a row. One that is there already is written over where it is.
+fn set(
+    alloc: Global,
+    rows: &mut BTreeMap<RowName, Box<Row>>,
+    name: &RowName,
+    row: &Row,
+) -> Result<(), NoMemory>
+    requires { IsOrdered row_name_cmp rows.old }
+    ensures ordered { IsOrdered row_name_cmp rows.new }
+    ensures ok { OnOk result
+        (map.from_entries {R = row_name_cmp} (rows_held (λ block. block.value) rows.new.entries)
+        ≡ map.insert (map.from_entries (rows_held (λ block. block.value) rows.old.entries)) name.now row.now) }
+    ensures err { OnErr result (IsUnchanged rows.old rows.new) }
+{
+    match rows.get_mut(name) {
+        Some(old) => **old = *row,
+        None => {
+            let block = Box::new(alloc, *row)?;
+            rows.insert(*name, block)?;
+        }
+    }
+    Ok(())
+}
+
+/// Rows by their names, each in a block of its own.
+pub type Rows = RowMap<Box<Row>>;
+
+impl RowMap<Box<Row>> {
+    /// The row of this name; `None` if there is none.
+    pub fn get(&self, name: &RowName) -> Option<&Row>
+        ensures { option_copied result ≡ map.get self.now name.now }
+    {
+        match self.find(name) {
+            Some(row) => Some(&**row),
+            None => None,
+        }
     }
 
     /// The same rows, with memory of their own.
     pub fn copied(&self) -> Result<Rows, NoMemory>
         ensures { IfOk result (λ copy. copy ≡ self.now) }
     {
-        Ok(Rows {
+        Ok(RowMap {
             alloc: self.alloc,
             rows: self.rows.clone()?,
         })
     }
 
-    // Makes one change. A refusal leaves the rows as they were.
+    // Makes one change. After an error the rows are as they were.
     fn change(&mut self, name: &RowName, change: &Change) -> Result<(), NoMemory>
         ensures ok { OnOk result (self.new ≡ after_change name.now change.now self.old) }
         ensures err { OnErr result (self.new ≡ self.old) }
     {
         match change {
-            Change::Put(row) => put(self.alloc, &mut self.rows, name, row),
+            Change::Put(row) => set(self.alloc, &mut self.rows, name, row),
             Change::Gone => {
-                self.rows.remove(name);
+                self.remove(name);
                 Ok(())
             }
         }
     }
 
-    /// Makes the changes of a transaction, by ascending name. After `Applied` the first `writes`
-    /// of them stand and the others don't.
+    /// Makes the changes of a transaction, by ascending name. After an error the first
+    /// `Applied::writes` of them have been made, and no others.
     pub fn apply(&mut self, txn: &Txn) -> Result<(), Applied>
         ensures ok { OnOk result (self.new ≡ after_writes txn.now.writes self.old) }
-        ensures err { IfErr result (λ applied. self.new ≡ after_writes (take applied.writes txn.now.writes) self.old) }
+        ensures err { IfErr result (λ applied.
+            self.new ≡ after_writes (take applied.writes txn.now.writes) self.old) }
         ensures left { IfErr result (λ applied. applied.writes < length txn.now.writes) }
     {
         for (applied, write) in txn.writes.as_slice().iter().enumerate() {

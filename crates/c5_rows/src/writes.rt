@@ -57,7 +57,7 @@ ghost use Rattle.c5_rows.specs.Order.{row_name_cmp};
 ghost use Rattle.std.specs.List.Sorted.{IsPartitionPoint};
 ghost use Rattle.std.specs.List.{HoldsAt};
 
-// Where the write of this name is, or where it would stand.
+// Where the write of this name is, or where it would be.
 fn place_of(writes: &[Write], name: &RowName) -> Result<usize, usize>
     requires { IsAscending writes.now }
     ensures bound { MatchResult result (λ i. i < length writes.now) (λ i. i ≤ length writes.now) }
@@ -75,7 +75,7 @@ fn place_of(writes: &[Write], name: &RowName) -> Result<usize, usize>
     writes.binary_search_by_key(name, |write| write.name)
 }
 
-// Adds an item before the one that stands here, or at the end.
+// Adds an item before the one at this place, or at the end.
 #[inline(always)]
 fn add_at<T: Drop>(items: &mut Vec<T>, at: usize, item: T) -> Result<(), NoMemory>
     requires { at ≤ length items.old.items }
@@ -94,7 +94,8 @@ fn add_at<T: Drop>(items: &mut Vec<T>, at: usize, item: T) -> Result<(), NoMemor
 #[inline(always)]
 fn put(writes: &mut Vec<Write>, name: RowName, change: Change) -> Result<(), NoMemory>
     requires { IsAscending writes.old.items }
-    ensures ok { OnOk result (writes.new.items ≡ put_write (record { name = name; change = change }) writes.old.items) }
+    ensures ok { OnOk result
+        (writes.new.items ≡ put_write (record { name = name; change = change }) writes.old.items) }
     ensures err { OnErr result (writes.new.items ≡ writes.old.items) }
     ensures ascending { IsAscending writes.new.items }
 {
@@ -125,7 +126,7 @@ impl Writes {
         }
     }
 
-    /// No writes, and the memory for `count` of them.
+    /// No writes. `count` is a hint: how many writes are expected. `set` may run out of memory all the same.
     pub fn with_capacity(alloc: Global, count: usize) -> Result<Self, NoMemory>
         ensures { IfOk result (λ writes. writes ≡ []) }
     {
@@ -134,15 +135,16 @@ impl Writes {
         })
     }
 
-    /// Replaces the write of that name, or adds it in its place. After `NoMemory` nothing has changed.
+    /// Replaces the write of that name, or adds one in its place. After `NoMemory` nothing has changed.
     pub fn set(&mut self, name: RowName, change: Change) -> Result<(), NoMemory>
-        ensures ok { OnOk result (self.new ≡ put_write (record { name = name; change = change }) self.old) }
+        ensures ok { OnOk result
+            (self.new ≡ put_write (record { name = name; change = change }) self.old) }
         ensures err { OnErr result (self.new ≡ self.old) }
     {
         put(&mut self.writes, name, change)
     }
 
-    /// The change of the row of this name; `None` exactly where no write has the name.
+    /// The change of the row of this name; `None` if no write has the name.
     pub fn find(&self, name: &RowName) -> Option<&Change>
         ensures { option_copied result ≡ change_of name.now self.now }
     {

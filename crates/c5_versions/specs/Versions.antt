@@ -1,5 +1,6 @@
 -- The versions of one row, and which of them a stamp finds.
 use Rattle.std.specs.Prelude.{◌≡◌, ◌<◌, ◌==◌, ℕ, List, [], ◌∷◌, Option, Some, None, if◌then◌else◌, map, max, nat_lt, unwrap_or}
+use Rattle.c5_rows.specs.Ascending.{IsBelowFirstBy, IsAscendingBy}
 use Rattle.c5_versions.specs.declared.versions.Version.{Version}
 
 -- the versions, and how many more can be inserted without memory
@@ -9,13 +10,11 @@ pub record VersionList : Type 0 where
 
 -- the first of the versions, if there is one, was written above this stamp
 abbrev pub IsBelowFirst : ℕ → List Version → Type 0
-IsBelowFirst stamp [] = Unit {0}
-IsBelowFirst stamp (version ∷ versions) = stamp < version.wrote
+IsBelowFirst = IsBelowFirstBy ◌<◌ (λ version. version.wrote)
 
 -- each was written above the one before it
 abbrev pub IsAscending : List Version → Type 0
-IsAscending [] = Unit {0}
-IsAscending (version ∷ versions) = IsBelowFirst version.wrote versions × IsAscending versions
+IsAscending = IsAscendingBy ◌<◌ (λ version. version.wrote)
 
 -- there is a first one, and it was written at 0
 abbrev pub BeginsAtZero : List Version → Type 0

@@ -16,7 +16,7 @@ use Rattle.turn_slot.specs.declared.known.Origin.{Origin}
 use Rattle.turn_slot.specs.declared.known.Stage.{Stage}
 use Rattle.turn_slot.specs.declared.known.Stage.TheVariants.{Without, Won, Out, Back}
 use Rattle.turn_slot.specs.Entries.{count_of, has, numbers_from, IsNumber, entries_of, AreOf, AreOthers, IsSeenOf}
-use Rattle.turn_slot.specs.Views.{has_turn, number_of, new_view, first_view, spent_view, others_view, single_view, joined_view, looked_view, saw_view, Fits, IsPlaced, IsKept, tried, took, gave, ended}
+use Rattle.turn_slot.specs.Views.{has_turn, pass_number, new_view, first_view, spent_view, others_view, single_view, joined_view, looked_view, saw_view, Fits, IsPlaced, IsKept, tried, took, gave, ended}
 use Rattle.turn_slot.proofs.Histories.{not_both, not_true, either_bool, one_number, has_front, has_back, has_part, has_range, range_has, seen_fewer, seen_whole, seen_more, seen_longer, seen_begins, seen_own, seen_all_own}
 
 -- ---- views in a list
@@ -42,7 +42,7 @@ one_view : {A : Type 0} (l : List A) (j : ℕ) (v w : A) → get_elem? l j ≡ s
 one_view l j v w e f = some-injective v w (sym e ∙ f)
 
 -- a number that isn't 0 and comes first is among the numbers
-first_has : (numbers : List ℕ) → number_of numbers ≢ 0 → has (number_of numbers) numbers ≡ true
+first_has : (numbers : List ℕ) → pass_number numbers ≢ 0 → has (pass_number numbers) numbers ≡ true
 first_has [] some_number = absurd (some_number refl)
 first_has (n ∷ ns) some_number = rw (eq-eqb n n refl)
 
@@ -187,7 +187,7 @@ module _ {V B E : Type 0} (base : V → B) (history : V → List E) (caller : E 
               numbers = f.numbers;
               seen = f.seen;
               looks = All-push (λ k. k ≤ origin.passes) v.looks 0 f.looks (omega arith);
-              turn = λ _. (refl, refl, ap number_of mine);
+              turn = λ _. (refl, refl, ap pass_number mine);
               seen_all = λ e. absurd (cc);
             })
             (λ k u apart there. still r.log r.holder number r.stage Won r.who id r.owner k u (idle_free s r k u zero_word there) (r.each k u there))),

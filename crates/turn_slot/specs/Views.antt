@@ -17,8 +17,8 @@ has_turn Out = true
 has_turn Back = true
 
 -- a pass's number is the first that it unites
-abbrev pub number_of : List ℕ → ℕ
-number_of numbers = slice_index numbers 0
+abbrev pub pass_number : List ℕ → ℕ
+pass_number numbers = slice_index numbers 0
 
 module _ {B E : Type 0} where
   -- a pass of these numbers that has seen and tried nothing
@@ -70,7 +70,7 @@ module _ {B E : Type 0} (caller : E → ℕ) (origin : Origin B) (log : List E) 
     pub numbers : (n : ℕ) → has n v.numbers ≡ true → IsNumber origin.passes n × (owner n ≡ seat)
     pub seen : IsSeenOf caller log v.numbers v.seen
     pub looks : All (λ n. n ≤ origin.passes) v.looks
-    pub turn : has_turn v.stage ≡ true → (seat ≡ who) × (stage ≡ v.stage) × (number_of v.numbers ≡ holder)
+    pub turn : has_turn v.stage ≡ true → (seat ≡ who) × (stage ≡ v.stage) × (pass_number v.numbers ≡ holder)
     pub seen_all : v.stage ≡ Out → v.seen ≡ log
 
 module _ {V B E : Type 0} (base : V → B) (history : V → List E) where

@@ -3,7 +3,7 @@
 ghost use Rattle.std.specs.Prelude.{◌≡◌, ◌≢◌, List, [], ◌∷◌, ◌++◌, true, false};
 ghost use mathlib.Core.List.{IsPrefix};
 ghost use Rattle.turn_slot.specs.Entries.{has, longer, entries_of, IsNumber, AreOf};
-ghost use Rattle.turn_slot.specs.Views.{number_of};
+ghost use Rattle.turn_slot.specs.Views.{pass_number};
 ghost use Rattle.turn_slot.specs.Passes.{passes, base_of, numbers, seen, looks, own, turn_numbers, turn_seen, turn_looks, IsPassOf, IsTurnOf, HasAll, IfTook, IfBusy, IsTook};
 
 use crate::kept::Kept;
@@ -14,7 +14,7 @@ use crate::slot::TurnSlot;
 impl<V: Kept> Pass<V> {
     /// The pass's number, which is the first that it unites.
     pub fn number(&self) -> u64
-        ensures first { result ≡ number_of (numbers self.now) }
+        ensures first { result ≡ pass_number (numbers self.now) }
         ensures among { has result (numbers self.now) ≡ true }
     {
         self.number
