@@ -8,7 +8,7 @@ use Rattle.c5_rows.specs.Bytes.{is_key_byte, is_text_byte}
 use Rattle.c5_definitions.specs.declared.script.ScriptKind.{ScriptKind}
 use Rattle.c5_definitions.specs.declared.script.ScriptKind.TheVariants as kinds
 use Rattle.c5_definitions.specs.Words.{Word, bare, quoted}
-use Rattle.c5_definitions.specs.Lines.{lines_of, Place, between, in_bare, in_quoted, behind_quoted, is_word_end, is_line_byte, with_word, words_at, words_of}
+use Rattle.c5_definitions.specs.Lines.{lines_of, LinePart, between, in_bare, in_quoted, behind_quoted, is_word_end, is_line_byte, with_word, words_at, words_of}
 use Rattle.c5_definitions.specs.LineGrammar.{IsLine, ended_lines, IsBlank, IsWord, spelled_word, IsLineOf}
 
 -- ---- bytes
@@ -181,7 +181,7 @@ record TextGoesOn (come : List ℕ) (words : List Word) (line : List ℕ) : Type
   ends : is_word_end rest ≡ true
   other_words : IsLineOf others rest
 
-abbrev GoesOn : Place → List Word → List ℕ → Type 0
+abbrev GoesOn : LinePart → List Word → List ℕ → Type 0
 GoesOn between words line = IsLineOf words line
 GoesOn (in_bare come) words line = BareGoesOn come words line
 GoesOn (in_quoted come) words line = TextGoesOn come words line
@@ -262,7 +262,7 @@ bare_ends come words e =
       other_words = refl;
     }
 
-no_more_words : (place : Place) (words : List Word) → words_at place [] ≡ Ok words → place ≡ between ⊎ place ≡ behind_quoted → IsLineOf words []
+no_more_words : (place : LinePart) (words : List Word) → words_at place [] ≡ Ok words → place ≡ between ⊎ place ≡ behind_quoted → IsLineOf words []
 unfolding words_at
 no_more_words between words e p = no_words words cc
 no_more_words (in_bare come) words e p = absurd (elim p [ inl f ↦ cc | inr f ↦ cc ])
@@ -273,7 +273,7 @@ text_stays_open : (come : List ℕ) (words : List Word) → words_at (in_quoted 
 unfolding words_at
 text_stays_open come words e = cc
 
-read : (line : List ℕ) (place : Place) (words : List Word) → list_all is_line_byte line ≡ true → words_at place line ≡ Ok words → GoesOn place words line
+read : (line : List ℕ) (place : LinePart) (words : List Word) → list_all is_line_byte line ≡ true → words_at place line ≡ Ok words → GoesOn place words line
 read [] between words allowed e = no_more_words between words e (inl refl)
 read [] (in_bare come) words allowed e = bare_ends come words e
 read [] (in_quoted come) words allowed e = absurd (text_stays_open come words e)

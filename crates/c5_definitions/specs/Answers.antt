@@ -10,7 +10,7 @@ use Rattle.c5_rows.specs.State.{State}
 use Rattle.c5_definitions.specs.declared.script.ReadLine.{ReadLine}
 use Rattle.c5_definitions.specs.declared.script.ReadLine.TheVariants.{OneRow, SumOf}
 use Rattle.c5_definitions.specs.ScriptParts.{ReadParts}
-use Rattle.c5_definitions.specs.Effects.{number_in}
+use Rattle.c5_definitions.specs.Effects.{int_in_column}
 use Rattle.c5_definitions.specs.Follows.{Read}
 
 -- the names that keys have in a table
@@ -34,7 +34,7 @@ or_zero (Some n) = n
 -- the sum of a column over rows
 abbrev pub sum_in : ℕ → List (Option (List Cell)) → ℤ
 sum_in col [] = pos 0
-sum_in col (row ∷ rows) = or_zero (number_in col row) +ℤ sum_in col rows
+sum_in col (row ∷ rows) = or_zero (int_in_column col row) +ℤ sum_in col rows
 
 -- a row, or that it is absent
 abbrev pub row_answer : RowName → Option (List Cell) → AnswerLine

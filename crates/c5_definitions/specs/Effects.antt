@@ -10,15 +10,15 @@ use Rattle.c5_definitions.specs.declared.script.Statement.{Statement}
 use Rattle.c5_definitions.specs.declared.script.Statement.TheVariants.{Put, Del, Need, Add, Copy}
 
 -- the number of an Int cell
-abbrev pub number_of : Option Cell → Option ℤ
-number_of None = None
-number_of (Some (Int n)) = Some n
-number_of (Some (Txt bytes)) = None
+abbrev pub int_of_cell : Option Cell → Option ℤ
+int_of_cell None = None
+int_of_cell (Some (Int n)) = Some n
+int_of_cell (Some (Txt bytes)) = None
 
 -- the number in a column; none where there is no row, or no Int cell in the column
-abbrev pub number_in : ℕ → Option (List Cell) → Option ℤ
-number_in col None = None
-number_in col (Some row) = number_of (slice_get row col)
+abbrev pub int_in_column : ℕ → Option (List Cell) → Option ℤ
+int_in_column col None = None
+int_in_column col (Some row) = int_of_cell (slice_get row col)
 
 -- whether a number compares so with another
 abbrev pub compares : Rel → ℤ → ℤ → Bool
@@ -62,6 +62,6 @@ add_effect name col (Some row) (Some cell) n = if fits_i64 (cell +ℤ n) then se
 abbrev pub effect_of : Statement → Option (List Cell) → Effect
 effect_of (Put name row) found = sets name (Some row)
 effect_of (Del name) found = sets name None
-effect_of (Need name col rel n) found = need_effect (number_in col found) rel n
-effect_of (Add name col n) found = add_effect name col found (number_in col found) n
+effect_of (Need name col rel n) found = need_effect (int_in_column col found) rel n
+effect_of (Add name col n) found = add_effect name col found (int_in_column col found) n
 effect_of (Copy from to) found = sets to found

@@ -26,34 +26,34 @@ pub record Ending : Type 0 where
   pub writes : List Write
 
 -- the state so far, and the names of the rows that were set
-pub record Progress : Type 0 where
+pub record BodySoFar : Type 0 where
   pub state : State
   pub noted : FinMap row_name_cmp (Unit {0})
 
 -- the row of a name that may be missing
-abbrev pub row_in : Option RowName → State → Option (List Cell)
-row_in None state = None
-row_in (Some name) state = get state name
+abbrev pub row_needed : Option RowName → State → Option (List Cell)
+row_needed None state = None
+row_needed (Some name) state = get state name
 
 -- a row is set, and its name is noted
-abbrev pub set_row : RowName → Option (List Cell) → Progress → Progress
+abbrev pub set_row : RowName → Option (List Cell) → BodySoFar → BodySoFar
 set_row name row p = record { state = after_change name (change_to row) p.state; noted = insert p.noted name tt }
 
 -- one statement after the other; none where one of them declines
-abbrev pub run : List Statement → Progress → Option Progress
-run [] p = Some p
-run (statement ∷ statements) p =
-    elim (effect_of statement (row_in (needed statement) p.state)) [
+abbrev pub after_statements : List Statement → BodySoFar → Option BodySoFar
+after_statements [] p = Some p
+after_statements (statement ∷ statements) p =
+    elim (effect_of statement (row_needed (needed statement) p.state)) [
       | declines ↦ None
-      | keeps ↦ run statements p
-      | sets name row ↦ run statements (set_row name row p)
+      | keeps ↦ after_statements statements p
+      | sets name row ↦ after_statements statements (set_row name row p)
     ]
 
 -- no writes where a statement declined; else for each noted name, ascending, the row that the state then has
-abbrev pub ending_of : Option Progress → Ending
+abbrev pub ending_of : Option BodySoFar → Ending
 ending_of None = record { declined = true; writes = [] }
 ending_of (Some p) = record { declined = false; writes = map (λ name. write_of name (get p.state name)) (keys p.noted) }
 
 -- how a body ends on a state
 unfoldable pub eval : List Statement → State → Ending
-eval body state = ending_of (run body (record { state = state; noted = empty }))
+eval body state = ending_of (after_statements body (record { state = state; noted = empty }))

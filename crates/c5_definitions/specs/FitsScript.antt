@@ -1,10 +1,10 @@
 -- Which statements and lines of read blocks fit tables, and what a script is.
-use Rattle.std.specs.Prelude.{◌≡◌, ◌≤◌, ◌<◌, ℕ, List, length, map, MatchOption, slice_get, Some}
+use Rattle.std.specs.Prelude.{◌≡◌, ◌≤◌, ◌<◌, ℕ, List, length, MatchOption, slice_get, Some}
 use Rattle.std.specs.List.{AllByRecursion}
 use Rattle.c5_rows.specs.Bytes.{IsKey}
-use Rattle.c5_rows.specs.Cells.{type_of}
+use Rattle.c5_rows.specs.Fitting.{RowFits}
+use Rattle.c5_rows.specs.Sizes.{max_statements, max_sessions, max_workers, max_read_lines, max_reads, max_sum_keys, max_turn_words}
 use Rattle.c5_rows.specs.Tables.{IsSchema}
-use Rattle.c5_rows.specs.declared.cells.Cell.{Cell}
 use Rattle.c5_rows.specs.declared.cells.CellType.TheVariants as types
 use Rattle.c5_rows.specs.declared.tables.TableDef.{TableDef}
 use Rattle.c5_definitions.specs.Lawful.{IsLawfulCell, IsLawfulTable}
@@ -13,14 +13,12 @@ use Rattle.c5_definitions.specs.declared.script.Statement.{Statement}
 use Rattle.c5_definitions.specs.declared.script.Statement.TheVariants.{Put, Del, Need, Add, Copy}
 use Rattle.c5_definitions.specs.declared.script.ReadLine.{ReadLine}
 use Rattle.c5_definitions.specs.declared.script.ReadLine.TheVariants.{OneRow, SumOf}
+use Rattle.c5_definitions.specs.declared.script.TurnWord.{TurnWord}
+use Rattle.c5_definitions.specs.declared.script.TurnWord.TheVariants.{Worker, Visible, Session}
 
 -- there is a table of this number
 abbrev pub HasTable : List TableDef → ℕ → Type 0
 HasTable tables table = table < length tables
-
--- the cells have the types of this table's columns
-abbrev pub HasRow : List TableDef → ℕ → List Cell → Type 0
-HasRow tables table row = MatchOption (slice_get tables table) ⊥ (λ found. map type_of row ≡ found.columns)
 
 -- this column of this table is an Int column
 abbrev pub HasIntColumn : List TableDef → ℕ → ℕ → Type 0
@@ -28,7 +26,7 @@ HasIntColumn tables table col = MatchOption (slice_get tables table) ⊥ (λ fou
 
 -- the tables have what the statement names
 abbrev pub StatementFits : List TableDef → Statement → Type 0
-StatementFits tables (Put name row) = HasRow tables name.table row
+StatementFits tables (Put name row) = RowFits tables name.table row
 StatementFits tables (Del name) = HasTable tables name.table
 StatementFits tables (Need name col rel n) = HasIntColumn tables name.table col
 StatementFits tables (Add name col n) = HasIntColumn tables name.table col
@@ -55,19 +53,31 @@ IsStatement (Need name col rel n) = IsKey name.key
 IsStatement (Add name col n) = IsKey name.key
 IsStatement (Copy from to) = IsKey from.key × IsKey to.key
 
--- at most 256 statements
+-- the keys of a line are keys, and a sum has at least one
+abbrev pub IsReadLine : ReadLine → Type 0
+IsReadLine (OneRow name) = IsKey name.key
+IsReadLine (SumOf table col keys) = (1 ≤ length keys) × (length keys ≤ max_sum_keys) × AllByRecursion IsKey keys
+
+-- the number of a worker or a session
+abbrev pub IsTurn : TurnWord → Type 0
+IsTurn (Worker n) = (1 ≤ n) × (n ≤ max_workers)
+IsTurn Visible = Unit {0}
+IsTurn (Session n) = (1 ≤ n) × (n ≤ max_sessions)
+
+-- the statements of a transaction
 pub record IsBody (body : List Statement) : Type 0 where
-  pub at_most_256 : length body ≤ 256
+  pub few : length body ≤ max_statements
   pub each : AllByRecursion IsStatement body
 
--- a session from 1 to 16 asks 1 to 16 lines
+-- a read block: a session asks at least one line
 pub record IsRead (read : ReadParts) : Type 0 where
   pub session_some : 1 ≤ read.session
-  pub session_at_most_sixteen : read.session ≤ 16
+  pub session_few : read.session ≤ max_sessions
   pub some : 1 ≤ length read.lines
-  pub at_most_sixteen : length read.lines ≤ 16
+  pub few : length read.lines ≤ max_read_lines
+  pub each : AllByRecursion IsReadLine read.lines
 
--- bodies and at most 256 read blocks that fit the tables of a schema
+-- bodies and read blocks that fit the tables of a schema, and a schedule
 pub record IsScript (script : ScriptParts) : Type 0 where
   pub schema : IsSchema script.tables
   pub each_table : AllByRecursion IsLawfulTable script.tables
@@ -75,4 +85,6 @@ pub record IsScript (script : ScriptParts) : Type 0 where
   pub bodies_fit : AllByRecursion (BodyFits script.tables) script.bodies
   pub reads : AllByRecursion IsRead script.reads
   pub reads_fit : AllByRecursion (ReadFits script.tables) script.reads
-  pub at_most_256_reads : length script.reads ≤ 256
+  pub few_reads : length script.reads ≤ max_reads
+  pub turns : AllByRecursion IsTurn script.turns
+  pub few_turns : length script.turns ≤ max_turn_words

@@ -24,9 +24,9 @@ abbrev pub Own : Type 0
 Own = FinMap row_name_cmp (Option (List Cell))
 
 -- the row that is needed, and the reads that are left: a row that the body has set is that one, any other is the first read's
-abbrev pub Finds : Option RowName → Own → List Read → Option (List Cell) → List Read → Type 0
-Finds None own reads row rest = (row ≡ None) × (rest ≡ reads)
-Finds (Some name) own reads row rest = MatchOption (get own name) (reads ≡ (name, row) ∷ rest) (λ set. (row ≡ set) × (rest ≡ reads))
+abbrev pub FindsRow : Option RowName → Own → List Read → Option (List Cell) → List Read → Type 0
+FindsRow None own reads row rest = (row ≡ None) × (rest ≡ reads)
+FindsRow (Some name) own reads row rest = MatchOption (get own name) (reads ≡ (name, row) ∷ rest) (λ set. (row ≡ set) × (rest ≡ reads))
 
 -- one write for each row that was set, ascending by name
 abbrev pub own_writes : Own → List Write
@@ -36,7 +36,7 @@ own_writes own = map (λ (name, row). write_of name row) (entries own)
 abbrev pub FollowsFrom : List Statement → Own → List Read → Bool → List Write → Type 0
 FollowsFrom [] own reads declined writes = (reads ≡ []) × (declined ≡ false) × (writes ≡ own_writes own)
 FollowsFrom (statement ∷ statements) own reads declined writes =
-    (found : Option (List Cell)) × (rest : List Read) × Finds (needed statement) own reads found rest × elim (effect_of statement found) [
+    (found : Option (List Cell)) × (rest : List Read) × FindsRow (needed statement) own reads found rest × elim (effect_of statement found) [
       | declines ↦ (rest ≡ []) × (declined ≡ true) × (writes ≡ [])
       | keeps ↦ FollowsFrom statements own rest declined writes
       | sets name row ↦ FollowsFrom statements (insert own name row) rest declined writes

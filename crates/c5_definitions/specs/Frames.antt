@@ -9,6 +9,7 @@ use Rattle.c5_rows.specs.declared.tables.TableDef.{TableDef}
 use Rattle.c5_rows.specs.declared.writes.Change.{Change}
 use Rattle.c5_rows.specs.declared.writes.Change.TheVariants.{Put, Gone}
 use Rattle.c5_rows.specs.declared.writes.Write.{Write}
+use Rattle.c5_rows.specs.Sizes.{max_key_bytes, max_text_bytes}
 use Rattle.c5_definitions.specs.declared.fault.LogKind.{LogKind}
 use Rattle.c5_definitions.specs.declared.fault.LogKind.TheVariants as kinds
 use Rattle.c5_definitions.specs.Numbers.{number_32, number_64, signed_64}
@@ -29,12 +30,12 @@ pub data Frame : Type 0 where
 -- a byte of length, and so many bytes, which are a key
 unfoldable pub key_at : List ℕ → Result (List ℕ × List ℕ) LogKind
 key_at [] = Err kinds.Key
-key_at (n ∷ rest) = if nat_lt (length rest) n then Err kinds.Key else (or_cause kinds.Key (checked_bytes 1 32 is_key_byte (take n rest)) >>= λ key. Ok (key, drop n rest))
+key_at (n ∷ rest) = if nat_lt (length rest) n then Err kinds.Key else (or_cause kinds.Key (checked_bytes 1 max_key_bytes is_key_byte (take n rest)) >>= λ key. Ok (key, drop n rest))
 
 -- a byte of length, and so many bytes, which are a text
 unfoldable pub text_at : List ℕ → Result (Cell × List ℕ) LogKind
 text_at [] = Err kinds.Cell
-text_at (n ∷ rest) = if nat_lt (length rest) n then Err kinds.Cell else (or_cause kinds.Cell (checked_bytes 0 32 is_text_byte (take n rest)) >>= λ text. Ok (Txt text, drop n rest))
+text_at (n ∷ rest) = if nat_lt (length rest) n then Err kinds.Cell else (or_cause kinds.Cell (checked_bytes 0 max_text_bytes is_text_byte (take n rest)) >>= λ text. Ok (Txt text, drop n rest))
 
 -- 8 bytes
 unfoldable pub int_at : List ℕ → Result (Cell × List ℕ) LogKind

@@ -7,7 +7,7 @@ use Rattle.std.specs.Prelude.{ℕ, ◌+◌, ◌-◌, ◌&&◌, ◌||◌, ◌==�
 use Rattle.std.specs.Str.{bytes_eq}
 use Rattle.std.specs.Ordering.{is_gt}
 use Rattle.c5_rows.specs.Bytes.{checked_bytes, is_name_byte}
-use Rattle.c5_rows.specs.Tables.{table_of}
+use Rattle.c5_rows.specs.Tables.{table_number}
 use Rattle.c5_rows.specs.Order.{row_name_cmp}
 use Rattle.c5_rows.specs.declared.cells.CellType.{CellType}
 use Rattle.c5_rows.specs.declared.cells.CellType.TheVariants as types
@@ -15,6 +15,7 @@ use Rattle.c5_rows.specs.declared.tables.TableDef.{TableDef}
 use Rattle.c5_rows.specs.declared.writes.RowName.{RowName}
 use Rattle.c5_rows.specs.declared.writes.Write.{Write}
 use Rattle.c5_rows.specs.declared.writes.Txn.{Txn}
+use Rattle.c5_rows.specs.Sizes.{max_tables, max_columns, max_name_bytes, min_payload_bytes, max_payload_bytes}
 use Rattle.c5_definitions.specs.declared.fault.LogKind.{LogKind}
 use Rattle.c5_definitions.specs.declared.fault.LogKind.TheVariants as kinds
 use Rattle.c5_definitions.specs.declared.fault.LogFault.{LogFault}
@@ -50,7 +51,7 @@ size_of nothing_more = 1
 
 -- what has been read: the tables, the transactions, the writes since the last commit mark, its stamp or 0,
 -- and the item that comes next
-pub record SoFar : Type 0 where
+pub record LogSoFar : Type 0 where
   pub tables : List TableDef
   pub txns : List Txn
   pub writes : List Write
@@ -60,24 +61,24 @@ pub record SoFar : Type 0 where
 -- ---- the tests of an item
 
 -- a number of one byte, in its range
-unfoldable pub number_in : ℕ → ℕ → List ℕ → Result ℕ LogKind
-number_in low high [] = Err kinds.Header
-number_in low high (n ∷ rest) = if nat_lt n low || nat_lt high n then Err kinds.Header else Ok n
+unfoldable pub header_count : ℕ → ℕ → List ℕ → Result ℕ LogKind
+header_count low high [] = Err kinds.Header
+header_count low high (n ∷ rest) = if nat_lt n low || nat_lt high n then Err kinds.Header else Ok n
 
 -- the name of a table, which no earlier table has
-unfoldable pub name_in : List TableDef → List ℕ → Result (List ℕ) LogKind
-name_in tables bytes = or_cause kinds.Header (checked_bytes 1 16 is_name_byte bytes) >>= λ name. if is_some (table_of name tables) then Err kinds.Header else Ok name
+unfoldable pub new_table_name : List TableDef → List ℕ → Result (List ℕ) LogKind
+new_table_name tables bytes = or_cause kinds.Header (checked_bytes 1 max_name_bytes is_name_byte bytes) >>= λ name. if is_some (table_number name tables) then Err kinds.Header else Ok name
 
 -- the type that a byte stands for
-unfoldable pub type_in : ℕ → Result CellType LogKind
-type_in byte = if byte == 1 then Ok types.Int else (if byte == 2 then Ok types.Text else Err kinds.Header)
+unfoldable pub type_of_byte : ℕ → Result CellType LogKind
+type_of_byte byte = if byte == 1 then Ok types.Int else (if byte == 2 then Ok types.Text else Err kinds.Header)
 
 -- the types that bytes stand for
-unfoldable pub types_in : List ℕ → Result (List CellType) LogKind
-types_in [] = Ok []
-types_in (byte ∷ bytes) = do
-  first ← type_in byte
-  others ← types_in bytes
+unfoldable pub types_of_bytes : List ℕ → Result (List CellType) LogKind
+types_of_bytes [] = Ok []
+types_of_bytes (byte ∷ bytes) = do
+  first ← type_of_byte byte
+  others ← types_of_bytes bytes
   Ok (first ∷ others)
 
 -- the last of the writes
@@ -92,19 +93,19 @@ is_above name (Some last) = is_gt (row_name_cmp name last.name)
 -- ---- what has been read after an item
 
 -- the same, and another item comes next
-abbrev pub expecting : SoFar → Item → SoFar
+abbrev pub expecting : LogSoFar → Item → LogSoFar
 expecting s item = record { tables = s.tables; txns = s.txns; writes = s.writes; stamp = s.stamp; next = item }
 
 -- one more table, and then the next one or the first frame
-abbrev pub with_table : SoFar → ℕ → TableDef → SoFar
+abbrev pub with_table : LogSoFar → ℕ → TableDef → LogSoFar
 with_table s missing table = record { tables = s.tables ++ table ∷ []; txns = s.txns; writes = s.writes; stamp = s.stamp; next = if missing == 1 then frame_length else name_length (missing - 1) }
 
 -- a write, whose name is above that of the last one since the commit mark
-unfoldable pub after_write : SoFar → Write → Result SoFar LogKind
+unfoldable pub after_write : LogSoFar → Write → Result LogSoFar LogKind
 after_write s new = if is_above new.name (last_of s.writes) then Ok (record { tables = s.tables; txns = s.txns; writes = s.writes ++ new ∷ []; stamp = s.stamp; next = frame_length }) else Err kinds.Order
 
 -- a commit mark, whose stamp is above the last one, with the number of the writes
-unfoldable pub after_mark : SoFar → Mark → Result SoFar LogKind
+unfoldable pub after_mark : LogSoFar → Mark → Result LogSoFar LogKind
 after_mark s new =
     if nat_lt s.stamp new.stamp
     then (if length s.writes == new.count
@@ -113,23 +114,23 @@ after_mark s new =
     else Err kinds.Stamp
 
 -- the end mark, with no write since the last commit mark and the number of the transactions
-unfoldable pub after_end : SoFar → ℕ → Result SoFar LogKind
+unfoldable pub after_end : LogSoFar → ℕ → Result LogSoFar LogKind
 after_end s count = if length s.writes == 0 && (length s.txns == count) then Ok (expecting s nothing_more) else Err kinds.End
 
-unfoldable pub after_frame : SoFar → Frame → Result SoFar LogKind
+unfoldable pub after_frame : LogSoFar → Frame → Result LogSoFar LogKind
 after_frame s (write new) = after_write s new
 after_frame s (mark new) = after_mark s new
 after_frame s (end count) = after_end s count
 
 -- an item of these bytes
-unfoldable pub after_item : Item → SoFar → List ℕ → Result SoFar LogKind
+unfoldable pub after_item : Item → LogSoFar → List ℕ → Result LogSoFar LogKind
 after_item the_magic s bytes = if bytes_eq bytes magic then Ok (expecting s table_count) else Err kinds.Magic
-after_item table_count s bytes = number_in 1 16 bytes >>= λ n. Ok (expecting s (name_length n))
-after_item (name_length missing) s bytes = number_in 1 16 bytes >>= λ n. Ok (expecting s (table_name missing n))
-after_item (table_name missing size) s bytes = name_in s.tables bytes >>= λ name. Ok (expecting s (column_count missing name))
-after_item (column_count missing name) s bytes = number_in 1 8 bytes >>= λ n. Ok (expecting s (column_types missing name n))
-after_item (column_types missing name size) s bytes = types_in bytes >>= λ columns. Ok (with_table s missing (record { name = name; columns = columns }))
-after_item frame_length s bytes = if nat_lt (number_32 bytes) 5 || nat_lt 300 (number_32 bytes) then Err kinds.Length else Ok (expecting s (frame_payload (number_32 bytes)))
+after_item table_count s bytes = header_count 1 max_tables bytes >>= λ n. Ok (expecting s (name_length n))
+after_item (name_length missing) s bytes = header_count 1 max_name_bytes bytes >>= λ n. Ok (expecting s (table_name missing n))
+after_item (table_name missing size) s bytes = new_table_name s.tables bytes >>= λ name. Ok (expecting s (column_count missing name))
+after_item (column_count missing name) s bytes = header_count 1 max_columns bytes >>= λ n. Ok (expecting s (column_types missing name n))
+after_item (column_types missing name size) s bytes = types_of_bytes bytes >>= λ columns. Ok (with_table s missing (record { name = name; columns = columns }))
+after_item frame_length s bytes = if nat_lt (number_32 bytes) min_payload_bytes || nat_lt max_payload_bytes (number_32 bytes) then Err kinds.Length else Ok (expecting s (frame_payload (number_32 bytes)))
 after_item (frame_payload size) s bytes = frame_at s.tables bytes >>= λ frame. after_frame s frame
 after_item nothing_more s bytes = Err kinds.After
 
@@ -137,7 +138,7 @@ after_item nothing_more s bytes = Err kinds.After
 
 -- what has been read, where the next item begins, and those of its bytes that have come
 pub record Reading : Type 0 where
-  pub so_far : SoFar
+  pub so_far : LogSoFar
   pub offset : ℕ
   pub come : List ℕ
 
@@ -184,5 +185,5 @@ unfoldable pub log_of : List ℕ → Result LogParts LogFault
 log_of bytes = after_bytes at_start bytes >>= whole
 
 -- the first fault of bytes, if they have one
-unfoldable pub fault_of : List ℕ → Option LogFault
-fault_of bytes = elim (log_of bytes) [ Ok log ↦ None | Err fault ↦ Some fault ]
+unfoldable pub log_fault_of : List ℕ → Option LogFault
+log_fault_of bytes = elim (log_of bytes) [ Ok log ↦ None | Err fault ↦ Some fault ]

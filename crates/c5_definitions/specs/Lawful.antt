@@ -13,13 +13,14 @@ use Rattle.c5_rows.specs.Bytes.{IsKey, IsText, IsTableName}
 use Rattle.c5_rows.specs.Tables.{IsSchema}
 use Rattle.c5_rows.specs.Writes.{IsAscending}
 use Rattle.c5_rows.specs.Fitting.{FitsTables}
+use Rattle.c5_rows.specs.Sizes.{max_columns}
 use Rattle.c5_definitions.specs.Spelling.{spelled_log}
 
--- a name of a table, and 1 to 8 columns
+-- a name of a table, and at least one column
 pub record IsLawfulTable (table : TableDef) : Type 0 where
   pub name : IsTableName table.name
   pub some : 1 ≤ length table.columns
-  pub at_most_eight : length table.columns ≤ 8
+  pub few : length table.columns ≤ max_columns
 
 -- a number of 64 bits with a sign, or a text
 abbrev pub IsLawfulCell : Cell → Type 0
@@ -50,7 +51,7 @@ StampsRise last [] = Unit {0}
 StampsRise last (txn ∷ txns) = (last < txn.stamp) × (txn.stamp < 2 ^ 64) × StampsRise txn.stamp txns
 
 -- tables of different names, lawful transactions, and stamps that strictly ascend from at least 1
-pub record IsLawful (tables : List TableDef) (txns : List Txn) : Type 0 where
+pub record IsLawfulLog (tables : List TableDef) (txns : List Txn) : Type 0 where
   pub schema : IsSchema tables
   pub each_table : AllByRecursion IsLawfulTable tables
   pub each_txn : AllByRecursion (IsLawfulTxn tables) txns
@@ -59,5 +60,5 @@ pub record IsLawful (tables : List TableDef) (txns : List Txn) : Type 0 where
 
 -- the bytes are the spelling of lawful tables and transactions
 pub record Spells (bytes : List ℕ) (tables : List TableDef) (txns : List Txn) : Type 0 where
-  pub lawful : IsLawful tables txns
+  pub lawful : IsLawfulLog tables txns
   pub spelling : bytes ≡ spelled_log tables txns

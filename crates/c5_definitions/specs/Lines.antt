@@ -27,11 +27,11 @@ is_line_byte = is_between 32 126
 
 -- where a byte of a line stands: between words, in a bare word or in a quoted text of which these bytes have
 -- come, or right behind a quoted text
-pub data Place : Type 0 where
-  between : Place
-  in_bare : List ℕ → Place
-  in_quoted : List ℕ → Place
-  behind_quoted : Place
+pub data LinePart : Type 0 where
+  between : LinePart
+  in_bare : List ℕ → LinePart
+  in_quoted : List ℕ → LinePart
+  behind_quoted : LinePart
 
 -- nothing or a blank comes
 abbrev pub is_word_end : List ℕ → Bool
@@ -45,7 +45,7 @@ with_word word (Err kind) = Err kind
 
 -- the words that begin or end in these bytes, of which the first stands at this place: blanks part them, a
 -- quote opens and closes a quoted text, which a blank or the end follows, and stands nowhere else
-unfoldable pub words_at : Place → List ℕ → Result (List Word) ScriptKind
+unfoldable pub words_at : LinePart → List ℕ → Result (List Word) ScriptKind
 words_at between [] = Ok []
 words_at between (byte ∷ bytes) =
     if byte == 32 then words_at between bytes

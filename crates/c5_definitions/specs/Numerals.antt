@@ -24,9 +24,9 @@ abbrev pub as_negative : ℕ → Option ℤ
 as_negative n = if nat_le n (2 ^ 63) then Some (neg_ℤ (pos n)) else None
 
 -- the number of 64 bits with a sign that an optional minus and 1 to 19 digits write
-unfoldable pub number_of : List ℕ → Option ℤ
-number_of [] = None
-number_of (first ∷ rest) = if first == 45 then option_and_then as_negative (magnitude_of rest) else option_and_then as_positive (magnitude_of (first ∷ rest))
+unfoldable pub int_of_digits : List ℕ → Option ℤ
+int_of_digits [] = None
+int_of_digits (first ∷ rest) = if first == 45 then option_and_then as_negative (magnitude_of rest) else option_and_then as_positive (magnitude_of (first ∷ rest))
 
 -- the number from 1 to 16 that one or two digits write, the first of them not 0
 unfoldable pub turn_number_of : List ℕ → Option ℕ

@@ -2,13 +2,14 @@
 use Rattle.std.specs.Prelude.{ℕ, ℤ, ◌-◌, ◌==◌, pos, negsuc, is_some, codes, List, [], ◌∷◌, length, slice_get, Option, Some, None, Result, Ok, Err, if◌then◌else◌}
 use Rattle.std.specs.Str.{bytes_eq}
 use Rattle.c5_rows.specs.Bytes.{checked_bytes, is_between, is_key_byte, is_name_byte, is_text_byte}
-use Rattle.c5_rows.specs.Tables.{table_of}
+use Rattle.c5_rows.specs.Tables.{table_number}
 use Rattle.c5_rows.specs.declared.cells.CellType.{CellType}
 use Rattle.c5_rows.specs.declared.cells.CellType.TheVariants as types
 use Rattle.c5_rows.specs.declared.cells.Cell.{Cell}
 use Rattle.c5_rows.specs.declared.cells.Cell.TheVariants.{Int, Txt}
 use Rattle.c5_rows.specs.declared.tables.TableDef.{TableDef}
 use Rattle.c5_rows.specs.declared.writes.RowName.{RowName}
+use Rattle.c5_rows.specs.Sizes.{max_key_bytes, max_text_bytes, max_name_bytes, max_sessions}
 use Rattle.c5_definitions.specs.declared.script.Rel.{Rel}
 use Rattle.c5_definitions.specs.declared.script.Rel.TheVariants as rels
 use Rattle.c5_definitions.specs.declared.script.TurnWord.{TurnWord}
@@ -17,7 +18,7 @@ use Rattle.c5_definitions.specs.declared.script.ScriptKind.{ScriptKind}
 use Rattle.c5_definitions.specs.declared.script.ScriptKind.TheVariants as kinds
 use Rattle.c5_definitions.specs.Steps.{◌>>=◌, or_cause}
 use Rattle.c5_definitions.specs.Words.{Word, bare, quoted}
-use Rattle.c5_definitions.specs.Numerals.{is_digit, number_of, turn_number_of}
+use Rattle.c5_definitions.specs.Numerals.{is_digit, int_of_digits, turn_number_of}
 
 -- what was found, or this cause
 abbrev pub found_or : {A E : Type 0} → E → Option A → Result A E
@@ -27,7 +28,7 @@ found_or cause None = Err cause
 -- the name of a new table
 unfoldable pub new_name_in : List TableDef → Word → Result (List ℕ) ScriptKind
 new_name_in tables (quoted text) = Err kinds.Name
-new_name_in tables (bare bytes) = or_cause kinds.Name (checked_bytes 1 16 is_name_byte bytes) >>= λ name. if is_some (table_of name tables) then Err kinds.Name else Ok name
+new_name_in tables (bare bytes) = or_cause kinds.Name (checked_bytes 1 max_name_bytes is_name_byte bytes) >>= λ name. if is_some (table_number name tables) then Err kinds.Name else Ok name
 
 -- the type of a column
 unfoldable pub type_in : Word → Result CellType ScriptKind
@@ -40,12 +41,12 @@ type_in (bare bytes) =
 -- the name of a table, which gives the table's number
 unfoldable pub table_in : List TableDef → Word → Result ℕ ScriptKind
 table_in tables (quoted text) = Err kinds.Table
-table_in tables (bare bytes) = found_or kinds.Table (table_of bytes tables)
+table_in tables (bare bytes) = found_or kinds.Table (table_number bytes tables)
 
 -- a key
 unfoldable pub key_in : Word → Result (List ℕ) ScriptKind
 key_in (quoted text) = Err kinds.Key
-key_in (bare bytes) = or_cause kinds.Key (checked_bytes 1 32 is_key_byte bytes)
+key_in (bare bytes) = or_cause kinds.Key (checked_bytes 1 max_key_bytes is_key_byte bytes)
 
 -- the name of a table and a key, which name a row
 unfoldable pub row_name_in : List TableDef → Word → Word → Result RowName ScriptKind
@@ -55,15 +56,15 @@ row_name_in tables t k = do
   Ok (record { table = table; key = key })
 
 -- a number
-unfoldable pub number_in : Word → Result ℤ ScriptKind
-number_in (quoted text) = Err kinds.Number
-number_in (bare bytes) = found_or kinds.Number (number_of bytes)
+unfoldable pub int_in : Word → Result ℤ ScriptKind
+int_in (quoted text) = Err kinds.Number
+int_in (bare bytes) = found_or kinds.Number (int_of_digits bytes)
 
 -- a cell of a column of this type
 unfoldable pub cell_in : CellType → Word → Result Cell ScriptKind
 cell_in types.Int (quoted text) = Err kinds.WrongType
-cell_in types.Int (bare bytes) = found_or kinds.Number (number_of bytes) >>= λ n. Ok (Int n)
-cell_in types.Text (quoted text) = or_cause kinds.Limit (checked_bytes 0 32 is_text_byte text) >>= λ bytes. Ok (Txt bytes)
+cell_in types.Int (bare bytes) = found_or kinds.Number (int_of_digits bytes) >>= λ n. Ok (Int n)
+cell_in types.Text (quoted text) = or_cause kinds.Limit (checked_bytes 0 max_text_bytes is_text_byte text) >>= λ bytes. Ok (Txt bytes)
 cell_in types.Text (bare bytes) = Err kinds.WrongType
 
 -- the columns of the table of this number
@@ -99,12 +100,12 @@ rel_in (bare bytes) =
 
 -- a number from 1 to 16
 abbrev pub from_1_to_16 : ℤ → Result ℕ ScriptKind
-from_1_to_16 (pos n) = if is_between 1 16 n then Ok n else Err kinds.Number
+from_1_to_16 (pos n) = if is_between 1 max_sessions n then Ok n else Err kinds.Number
 from_1_to_16 (negsuc n) = Err kinds.Number
 
 -- a session
 unfoldable pub session_in : Word → Result ℕ ScriptKind
-session_in word = number_in word >>= from_1_to_16
+session_in word = int_in word >>= from_1_to_16
 
 -- a step of the schedule: `v`, or `w` or `s` and a number
 unfoldable pub turn_in : Word → Result TurnWord ScriptKind

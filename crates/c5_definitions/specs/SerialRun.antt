@@ -13,19 +13,19 @@ abbrev pub body_at : List (List Statement) → ℕ → List Statement
 body_at bodies number = slice_index_or bodies number []
 
 -- the transaction that a body makes on a state
-abbrev pub ran : ℕ → ℕ → List Statement → State → Txn
-ran number stamp body state = record { script = number; stamp = stamp; writes = (eval body state).writes }
+abbrev pub body_txn : ℕ → ℕ → List Statement → State → Txn
+body_txn number stamp body state = record { script = number; stamp = stamp; writes = (eval body state).writes }
 
 -- the bodies of these numbers, each on what those before it left; the stamps count on from this one
-abbrev pub run_from : ℕ → List (List Statement) → State → List ℕ → List Txn
-run_from stamp bodies state [] = []
-run_from stamp bodies state (number ∷ numbers) =
-    ran number stamp (body_at bodies number) state
-    ∷ run_from (stamp + 1) bodies (after_writes (eval (body_at bodies number) state).writes state) numbers
+abbrev pub serial_txns_from : ℕ → List (List Statement) → State → List ℕ → List Txn
+serial_txns_from stamp bodies state [] = []
+serial_txns_from stamp bodies state (number ∷ numbers) =
+    body_txn number stamp (body_at bodies number) state
+    ∷ serial_txns_from (stamp + 1) bodies (after_writes (eval (body_at bodies number) state).writes state) numbers
 
 -- the bodies of these numbers, one after the other, with the stamps 1, 2, 3 and so on
-abbrev pub run : List (List Statement) → State → List ℕ → List Txn
-run bodies state numbers = run_from 1 bodies state numbers
+abbrev pub serial_txns : List (List Statement) → State → List ℕ → List Txn
+serial_txns bodies state numbers = serial_txns_from 1 bodies state numbers
 
 -- the script numbers of transactions
 abbrev pub script_numbers : List Txn → List ℕ
@@ -39,4 +39,4 @@ AreAlike these those = AllZip (λ a b. (a.script ≡ b.script) × (a.writes ≡ 
 pub record SerialRun (bodies : List (List Statement)) (state : State) (txns : List Txn) : Type 0 where
   pub each_once : IsPermutation (range_with_len 0 (length bodies)) (script_numbers txns)
   pub stamps : StampsRise 0 txns
-  pub alike : AreAlike txns (run bodies state (script_numbers txns))
+  pub alike : AreAlike txns (serial_txns bodies state (script_numbers txns))

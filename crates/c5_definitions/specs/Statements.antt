@@ -5,6 +5,7 @@
 use Rattle.std.specs.Prelude.{ℕ, ◌+◌, ◌&&◌, ◌||◌, Bool, false, nat_lt, nat_le, codes, List, [], ◌∷◌, ◌++◌, length, Result, Ok, Err, if◌then◌else◌}
 use Rattle.std.specs.Str.{bytes_eq}
 use Rattle.c5_rows.specs.declared.tables.TableDef.{TableDef}
+use Rattle.c5_rows.specs.Sizes.{max_tables, max_columns, max_reads, max_turn_words, max_statements, max_read_lines, max_sum_keys}
 use Rattle.c5_definitions.specs.declared.script.Statement.{Statement}
 use Rattle.c5_definitions.specs.declared.script.Statement.TheVariants.{Put, Del, Need, Add, Copy}
 use Rattle.c5_definitions.specs.declared.script.ReadLine.{ReadLine}
@@ -15,24 +16,24 @@ use Rattle.c5_definitions.specs.declared.script.ScriptKind.TheVariants as kinds
 use Rattle.c5_definitions.specs.Steps.{◌>>=◌}
 use Rattle.c5_definitions.specs.Words.{Word, bare, quoted}
 use Rattle.c5_definitions.specs.ScriptSoFar.{ScriptSoFar, Block, outside, in_txn, in_read, is_outside, has_table, is_heading}
-use Rattle.c5_definitions.specs.Places.{new_name_in, type_in, table_in, key_in, row_name_in, number_in, row_in, columns_of, column_in, rel_in, session_in, turn_in, each_in}
+use Rattle.c5_definitions.specs.Places.{new_name_in, type_in, table_in, key_in, row_name_in, int_in, row_in, columns_of, column_in, rel_in, session_in, turn_in, each_in}
 
 -- ---- outside blocks
 
 -- `table NAME TYPE ..`
-unfoldable pub table_of : List TableDef → Word → List Word → Result TableDef ScriptKind
-table_of tables word types = do
+unfoldable pub new_table : List TableDef → Word → List Word → Result TableDef ScriptKind
+new_table tables word types = do
   name ← new_name_in tables word
   columns ← each_in type_in types
   Ok (record { name = name; columns = columns })
 
 unfoldable pub table_words : List TableDef → List Word → Result TableDef ScriptKind
-table_words tables (name ∷ type ∷ types) = table_of tables name (type ∷ types)
+table_words tables (name ∷ type ∷ types) = new_table tables name (type ∷ types)
 table_words tables _ = Err kinds.Count
 
--- at most 16 tables, and at most 8 types
+-- as long as there is room for one more table; a table has a limit of columns
 unfoldable pub table_line : List TableDef → List Word → Result TableDef ScriptKind
-table_line tables words = if nat_le 16 (length tables) || nat_lt 9 (length words) then Err kinds.Limit else table_words tables words
+table_line tables words = if nat_le max_tables (length tables) || nat_lt (1 + max_columns) (length words) then Err kinds.Limit else table_words tables words
 
 -- a line that adds a table
 unfoldable pub heading_line : ScriptSoFar → List Word → Result ScriptSoFar ScriptKind
@@ -48,18 +49,18 @@ unfoldable pub read_words : List Word → Result Block ScriptKind
 read_words (word ∷ []) = session_in word >>= λ session. Ok (in_read session [])
 read_words _ = Err kinds.Count
 
--- behind so many read blocks, at most 256 in all
+-- after so many read blocks, as long as there is room for one more
 unfoldable pub read_line : ℕ → List Word → Result Block ScriptKind
-read_line count words = if nat_le 256 count then Err kinds.Limit else read_words words
+read_line count words = if nat_le max_reads count then Err kinds.Limit else read_words words
 
 -- `turns WORD ..`
 unfoldable pub turns_words : List Word → Result (List TurnWord) ScriptKind
 turns_words [] = Err kinds.Count
 turns_words (word ∷ words) = each_in turn_in (word ∷ words)
 
--- behind so many turn words, at most 65,536 in all
+-- after so many turn words, as long as there is room for these
 unfoldable pub turns_line : ℕ → List Word → Result (List TurnWord) ScriptKind
-turns_line count words = if nat_lt 65536 (count + length words) then Err kinds.Limit else turns_words words
+turns_line count words = if nat_lt max_turn_words (count + length words) then Err kinds.Limit else turns_words words
 
 -- a line that is known once a table stands
 unfoldable pub standing_line : ScriptSoFar → List ℕ → List Word → Result ScriptSoFar ScriptKind
@@ -79,14 +80,14 @@ outside_line s first words =
 -- ---- in a transaction
 
 -- `put T K CELL ..`, one cell for each column
-unfoldable pub put_of : List TableDef → Word → Word → List Word → Result Statement ScriptKind
-put_of tables t k cells = do
+unfoldable pub put_statement : List TableDef → Word → Word → List Word → Result Statement ScriptKind
+put_statement tables t k cells = do
   name ← row_name_in tables t k
   row ← row_in (columns_of tables name.table) cells
   Ok (Put name row)
 
 unfoldable pub put_words : List TableDef → List Word → Result Statement ScriptKind
-put_words tables (t ∷ k ∷ cell ∷ cells) = put_of tables t k (cell ∷ cells)
+put_words tables (t ∷ k ∷ cell ∷ cells) = put_statement tables t k (cell ∷ cells)
 put_words tables _ = Err kinds.Count
 
 -- `del T K`
@@ -100,7 +101,7 @@ need_words tables (t ∷ k ∷ col ∷ rel ∷ n ∷ []) = do
   name ← row_name_in tables t k
   column ← column_in (columns_of tables name.table) col
   relation ← rel_in rel
-  number ← number_in n
+  number ← int_in n
   Ok (Need name column relation number)
 need_words tables _ = Err kinds.Count
 
@@ -109,7 +110,7 @@ unfoldable pub add_words : List TableDef → List Word → Result Statement Scri
 add_words tables (t ∷ k ∷ col ∷ n ∷ []) = do
   name ← row_name_in tables t k
   column ← column_in (columns_of tables name.table) col
-  number ← number_in n
+  number ← int_in n
   Ok (Add name column number)
 add_words tables _ = Err kinds.Count
 
@@ -145,9 +146,9 @@ statement_words need tables words = need_words tables words
 statement_words add tables words = add_words tables words
 statement_words copy tables words = copy_words tables words
 
--- behind so many statements, at most 256 in all
+-- after so many statements, as long as there is room for one more
 unfoldable pub statement_line : List TableDef → ℕ → List ℕ → List Word → Result Statement ScriptKind
-statement_line tables count first words = form_of first >>= λ form. if nat_le 256 count then Err kinds.Limit else statement_words form tables words
+statement_line tables count first words = form_of first >>= λ form. if nat_le max_statements count then Err kinds.Limit else statement_words form tables words
 
 -- ---- in a read block
 
@@ -165,11 +166,11 @@ sum_words tables (t ∷ col ∷ key ∷ keys) = do
   Ok (SumOf table column all)
 sum_words tables _ = Err kinds.Count
 
--- behind so many lines, at most 16 in all, and at most 16 keys
+-- after so many lines, as long as there is room for one more; a sum has a limit of keys
 unfoldable pub question_line : List TableDef → ℕ → List ℕ → List Word → Result ReadLine ScriptKind
 question_line tables count first words =
-    if bytes_eq first (codes "row") then (if nat_le 16 count then Err kinds.Limit else row_words tables words)
-    else (if bytes_eq first (codes "sum") then (if nat_le 16 count || nat_lt 18 (length words) then Err kinds.Limit else sum_words tables words)
+    if bytes_eq first (codes "row") then (if nat_le max_read_lines count then Err kinds.Limit else row_words tables words)
+    else (if bytes_eq first (codes "sum") then (if nat_le max_read_lines count || nat_lt (2 + max_sum_keys) (length words) then Err kinds.Limit else sum_words tables words)
     else Err kinds.Word)
 
 -- ---- any line

@@ -1,15 +1,14 @@
 -- The texts of rows.
-use Rattle.std.specs.Prelude.{◌≡◌, ℕ, List, [], ◌∷◌, ◌++◌, length, map, codes, decimal, slice_get, Option, Some, None, MatchOption}
+use Rattle.std.specs.Prelude.{ℕ, List, [], ◌∷◌, ◌++◌, length, codes, decimal, slice_get, Option, Some, None}
 use Rattle.std.specs.Fmt.{signed_decimal}
-use Rattle.std.specs.List.{flat_map, AllByRecursion}
-use Rattle.c5_rows.specs.Bytes.{IsKey}
-use Rattle.c5_rows.specs.Cells.{type_of}
+use Rattle.std.specs.List.{flat_map}
 use Rattle.c5_rows.specs.declared.cells.Cell.{Cell}
 use Rattle.c5_rows.specs.declared.cells.Cell.TheVariants.{Int, Txt}
 use Rattle.c5_rows.specs.declared.tables.TableDef.{TableDef}
 use Rattle.c5_rows.specs.declared.rows.RowEntry.{RowEntry}
+use Rattle.c5_rows.specs.declared.writes.RowName.{RowName}
 use Rattle.c5_rows.specs.State.{State, rows_of}
-use Rattle.c5_definitions.specs.Lawful.{IsLawfulCell}
+use Rattle.c5_definitions.specs.FitsState.{IsRowIn}
 
 -- a number with `-` where it is negative; or a text between two quotes
 abbrev pub cell_text : Cell → List ℕ
@@ -17,23 +16,25 @@ cell_text (Int n) = signed_decimal n
 cell_text (Txt bytes) = 34 ∷ bytes ++ 34 ∷ []
 
 -- the name of a table; no bytes where there is no such table
-abbrev pub name_in : Option TableDef → List ℕ
-name_in (Some table) = table.name
-name_in None = []
+abbrev pub table_name_text : Option TableDef → List ℕ
+table_name_text (Some table) = table.name
+table_name_text None = []
+
+-- the table's name, a blank and the key
+abbrev pub name_text : List TableDef → RowName → List ℕ
+name_text tables name = table_name_text (slice_get tables name.table) ++ 32 ∷ name.key
 
 -- the table's name, the key and the cells, with a blank before each but the first
 abbrev pub line_text : List TableDef → RowEntry → List ℕ
-line_text tables entry = name_in (slice_get tables entry.name.table) ++ 32 ∷ entry.name.key ++ flat_map (λ cell. 32 ∷ cell_text cell) entry.row
+line_text tables entry = name_text tables entry.name ++ flat_map (λ cell. 32 ∷ cell_text cell) entry.row
 
 -- the same with a line end
 abbrev pub row_line : List TableDef → RowEntry → List ℕ
 row_line tables entry = line_text tables entry ++ 10 ∷ []
 
--- which rows a schema has a line for: the table exists, the key is a key, and the cells are lawful and of the columns' types
-pub record IsRowOf (tables : List TableDef) (entry : RowEntry) : Type 0 where
-  pub key : IsKey entry.name.key
-  pub cells : AllByRecursion IsLawfulCell entry.row
-  pub types : MatchOption (slice_get tables entry.name.table) ⊥ (λ table. map type_of entry.row ≡ table.columns)
+-- the row has a line: it is one of these tables
+abbrev pub IsRowOf : List TableDef → RowEntry → Type 0
+IsRowOf tables entry = IsRowIn tables entry.name entry.row
 
 -- `rows` and how many there are
 abbrev pub count_line : ℕ → List ℕ

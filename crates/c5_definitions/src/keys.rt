@@ -1,32 +1,27 @@
 //! Keys of rows, held in the value itself.
 
 ghost use Rattle.std.specs.Prelude.{◌≡◌, ◌≤◌, ◌<◌, [], ◌∷◌, ◌++◌, length};
+ghost use Rattle.c5_rows.specs.Sizes.{max_sum_keys};
 
-use c5_rows::Key;
+use c5_rows::{Key, MAX_SUM_KEYS, Padded};
 use std::marker::Model;
 
 /// 1 to 16 keys, held in the value itself.
 #[derive(Clone, Copy, Debug, PartialEq, Eq)]
 pub struct Keys {
-    // Behind the keys the first one stands again.
-    keys: [Key; 16],
-    len: u8,
+    keys: Padded<Key, MAX_SUM_KEYS>,
 }
 
 impl Model for Keys {
-    ghost use Rattle.std.specs.Prelude.{ℕ, List, length, take};
-    ghost use Rattle.c5_definitions.specs.Keys.{IsHeld, first_of, held_back, held_length};
-    ghost use Rattle.c5_rows.specs.Padded.{padded};
+    ghost use Rattle.std.specs.Prelude.{◌≤◌, ℕ, List, length};
 
     ghost Value = { List (List ℕ) };
 
-    ghost view = { λ k. take k.len k.keys };
+    ghost view = { λ k. k.keys };
 
-    ghost invariant = { λ k. IsHeld k.len k.keys };
+    ghost invariant = { λ k. 1 ≤ length k.keys };
 
-    ghost inverse = { λ keys. record { keys = padded (first_of keys) 16 keys; len = length keys } };
-
-    ghost inverse_ok = { λ k h i. record { keys = held_back k.len k.keys h i; len = held_length k.len k.keys h i } };
+    ghost inverse = { λ keys. record { keys = keys } };
 }
 
 impl Keys {
@@ -34,27 +29,25 @@ impl Keys {
     pub fn one(key: Key) -> Self
         ensures { result ≡ key ∷ [] }
     {
-        Keys {
-            keys: [key; 16],
-            len: 1,
-        }
+        let mut keys = Padded::new();
+        keys.push(key);
+        Keys { keys }
     }
 
     /// Adds a key at the end.
     pub fn push(&mut self, key: Key)
-        requires room { length self.old < 16 }
+        requires room { length self.old < max_sum_keys }
         ensures { self.new ≡ self.old ++ key ∷ [] }
     {
-        self.keys[self.len as usize] = key;
-        self.len += 1;
+        self.keys.push(key);
     }
 
     /// The keys, in order.
     pub fn as_slice(&self) -> &[Key]
         ensures value { result.now ≡ self.now }
         ensures some { 1 ≤ length self.now }
-        ensures at_most_sixteen { length self.now ≤ 16 }
+        ensures few { length self.now ≤ max_sum_keys }
     {
-        &self.keys[..self.len as usize]
+        self.keys.as_slice()
     }
 }
