@@ -10,11 +10,11 @@ use Rattle.c5_definitions.specs.Steps.{◌>>=◌}
 use Rattle.c5_definitions.specs.Items.{Item, the_magic, table_count, name_length, table_name, column_count, column_types, frame_length, frame_payload, nothing_more, size_of, begin_of, Reading, LogParts, whole_from, whole, log_of, after_bytes, at_start}
 use Rattle.c5_frames.specs.declared.stage.Stage.TheVariants as stages
 use Rattle.c5_frames.specs.declared.index.Index.{Index}
-use Rattle.c5_frames.specs.declared.progress.Progress.{Progress}
+use Rattle.c5_frames.specs.declared.decoder_state.DecoderState.{DecoderState}
 use Rattle.c5_frames.specs.Stages.{item_of, is_end}
 use Rattle.c5_frames.specs.Index.{Found, found_in, HasRoom, IsIndex}
 use Rattle.c5_frames.specs.Holding.{txns_in, HoldsLog}
-use Rattle.c5_frames.specs.Progress.{State, state_of, tables_of, so_far_of, reading_of, IsDue, IsFoundBefore, Tracks, IsReady, ComesTo, Decodes}
+use Rattle.c5_frames.specs.DecoderStates.{DecodedState, decoded_state, tables_of, so_far_of, reading_of, IsDue, IsFoundBefore, Tracks, IsReady, ComesTo, Decodes}
 use Rattle.std.specs.Result.{IfErr}
 use Rattle.c5_definitions.specs.Lawful.{Spells}
 use Rattle.c5_frames.specs.Log.{Log}
@@ -51,7 +51,7 @@ Decodes-start index found = record {
 pub fault-stays : (bytes more : List ℕ) (fault : LogFault) → after_bytes at_start bytes ≡ Err fault → after_bytes at_start (bytes ++ more) ≡ Err fault
 fault-stays bytes more fault e = after_bytes-append at_start bytes more ∙ ap (λ (r : Result Reading LogFault). r >>= λ n. after_bytes n more) e
 
-Tracks-more : (bytes more : List ℕ) (s : State) → Tracks bytes s → Tracks (bytes ++ more) s
+Tracks-more : (bytes more : List ℕ) (s : DecodedState) → Tracks bytes s → Tracks (bytes ++ more) s
 Tracks-more bytes more s t =
     let within = t.within in
     let from = reading_of s t.txns t.writes in
@@ -70,16 +70,16 @@ Tracks-more bytes more s t =
       few_txns = t.few_txns;
     }
 
-pub ready-more : (bytes piece all : List ℕ) (old new : Progress) → Decodes bytes old None → length bytes + length piece ≤ 88080384
-    → state_of new ≡ state_of old → all ≡ bytes ++ piece → HasRoom (length all - new.at) new.index → IsReady all new
+pub ready-more : (bytes piece all : List ℕ) (old new : DecoderState) → Decodes bytes old None → length bytes + length piece ≤ 88080384
+    → decoded_state new ≡ decoded_state old → all ≡ bytes ++ piece → HasRoom (length all - new.at) new.index → IsReady all new
 ready-more bytes piece all old new h small same is room = record {
-  tracks = subst (λ (bs : List ℕ). Tracks bs (state_of new)) (sym is) (subst (Tracks (bytes ++ piece)) (sym same) (Tracks-more bytes piece (state_of old) h.come.0));
+  tracks = subst (λ (bs : List ℕ). Tracks bs (decoded_state new)) (sym is) (subst (Tracks (bytes ++ piece)) (sym same) (Tracks-more bytes piece (decoded_state old) h.come.0));
   room = room;
   small = let len : length all ≡ length (bytes ++ piece) = ap length is in omega (arith, len, length-append bytes piece, small);
 }
 
 -- what reading all bytes comes to, where less than an item stands behind
-pub reads-part : (bytes : List ℕ) (s : State) (t : Tracks bytes s) → length bytes < s.at + size_of s.next
+pub reads-part : (bytes : List ℕ) (s : DecodedState) (t : Tracks bytes s) → length bytes < s.at + size_of s.next
     → after_bytes at_start bytes ≡ Ok (record { so_far = so_far_of s t.txns t.writes; offset = s.at; come = drop s.at bytes })
 reads-part bytes s t short = t.reads ∙ item-part (so_far_of s t.txns t.writes) s.at bytes short t.within
 
@@ -113,10 +113,10 @@ log-from : (bytes : List ℕ) (r : Reading) → after_bytes at_start bytes ≡ O
 unfolding log_of whole
 log-from bytes r e = ap (λ (read : Result Reading LogFault). read >>= λ n. whole_from n.so_far.next n) e
 
-pub cut-log : (bytes : List ℕ) (p : Progress) → Decodes bytes p None → is_end (item_of p.stage) ≡ false → log_of bytes ≡ Err (record { offset = begin_of (item_of p.stage) p.at; kind = kinds.Cut })
+pub cut-log : (bytes : List ℕ) (p : DecoderState) → Decodes bytes p None → is_end (item_of p.stage) ≡ false → log_of bytes ≡ Err (record { offset = begin_of (item_of p.stage) p.at; kind = kinds.Cut })
 cut-log bytes p h open_end =
     let t = h.come.0 in
-    log-from bytes _ (reads-part bytes (state_of p) t h.come.1) ∙ whole-cut (item_of p.stage) _ open_end
+    log-from bytes _ (reads-part bytes (decoded_state p) t h.come.1) ∙ whole-cut (item_of p.stage) _ open_end
 
 pub fault-log : (bytes : List ℕ) (fault : LogFault) → after_bytes at_start bytes ≡ Err fault → log_of bytes ≡ Err fault
 unfolding log_of
@@ -134,7 +134,7 @@ some-tables (column_types missing name size) tables e due = absurd cc
 some-tables frame_length tables e due = absurd cc
 some-tables (frame_payload size) tables e due = absurd cc
 
-pub never-none : (bytes : List ℕ) (p : Progress) → Decodes bytes p None → is_end (item_of p.stage) ≡ true → p.schema ≡ None → ⊥
+pub never-none : (bytes : List ℕ) (p : DecoderState) → Decodes bytes p None → is_end (item_of p.stage) ≡ true → p.schema ≡ None → ⊥
 never-none bytes p h end none =
     let len : length (tables_of p.schema) ≡ 0 = ap (λ (schema : Option (List TableDef)). length (tables_of schema)) none in
     omega (arith, len, some-tables (item_of p.stage) (tables_of p.schema) end h.come.0.due)
@@ -158,12 +158,12 @@ no_items (x ∷ xs) e = absurd (omega (arith, e))
 abbrev txns_of_log : Result LogParts LogFault → List Txn
 txns_of_log r = elim r [ Ok log ↦ log.txns | Err fault ↦ [] ]
 
-pub holds-log : (bytes : List ℕ) (p : Progress) (schema : List TableDef) → Decodes bytes p None → is_end (item_of p.stage) ≡ true → p.schema ≡ Some schema → HoldsLog bytes schema p.index
+pub holds-log : (bytes : List ℕ) (p : DecoderState) (schema : List TableDef) → Decodes bytes p None → is_end (item_of p.stage) ≡ true → p.schema ≡ Some schema → HoldsLog bytes schema p.index
 holds-log bytes p schema h end is =
     let t = h.come.0 in
     let f = found_in p.index in
     let tables : tables_of p.schema ≡ schema = ap tables_of is in
-    let log : log_of bytes ≡ Ok (record { tables = tables_of p.schema; txns = t.txns }) = log-from bytes _ (reads-part bytes (state_of p) t h.come.1) ∙ whole-end (item_of p.stage) _ end in
+    let log : log_of bytes ≡ Ok (record { tables = tables_of p.schema; txns = t.txns }) = log-from bytes _ (reads-part bytes (decoded_state p) t h.come.1) ∙ whole-end (item_of p.stage) _ end in
     let txns : txns_in bytes ≡ t.txns = ap txns_of_log log in
     let none : t.writes ≡ [] = no_items t.writes (omega (arith, open-length bytes (tables_of p.schema) f t.txns t.writes t.index, all-closed (item_of p.stage) f end t.empty)) in
     let few_places = t.few_places in
@@ -192,5 +192,5 @@ pub refused : (bytes : List ℕ) (result : Result Log LogFault) → Finishes byt
 refused bytes (Ok log) h = tt
 refused bytes (Err fault) h = λ tables txns spells. never-both bytes fault tables txns h spells
 
-pub faulty-log : (bytes : List ℕ) (p : Progress) (found : Option LogFault) (fault : LogFault) → Decodes bytes p found → found ≡ Some fault → log_of bytes ≡ Err fault
+pub faulty-log : (bytes : List ℕ) (p : DecoderState) (found : Option LogFault) (fault : LogFault) → Decodes bytes p found → found ≡ Some fault → log_of bytes ≡ Err fault
 faulty-log bytes p found fault h is = fault-log bytes fault (subst (λ (f : Option LogFault). ComesTo bytes p f) is h.come)

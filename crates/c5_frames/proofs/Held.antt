@@ -13,13 +13,13 @@ use Rattle.c5_definitions.specs.Frames.{Frame, write, frame_at}
 use Rattle.c5_frames.specs.declared.index.Place.{Place}
 use Rattle.c5_frames.specs.declared.index.TxnRef.{TxnRef}
 use Rattle.c5_frames.specs.declared.index.Index.{Index}
-use Rattle.c5_frames.specs.Index.{found_in, writes_of, entry_of, LiesAt}
+use Rattle.c5_frames.specs.Index.{found_in, writes_of, txn_ref_of, LiesAt}
 use Rattle.c5_frames.specs.Holding.{txns_in, HoldsLog}
-use Rattle.c5_frames.proofs.Indexing.{LieAt-get, entries_of-length, entries_of-get, open-length}
+use Rattle.c5_frames.proofs.Indexing.{LieAt-get, txn_refs-length, txn_refs-get, open-length}
 use Rattle.c5_frames.proofs.Last.{slice_get-behind}
 
 pub txns-length : (bytes : List ℕ) (tables : List TableDef) (index : Index) → HoldsLog bytes tables index → length index.txns.items ≡ length (txns_in bytes)
-txns-length bytes tables index h = ap (λ (es : List TxnRef). length es) h.found.entries ∙ entries_of-length 1 (txns_in bytes)
+txns-length bytes tables index h = ap (λ (es : List TxnRef). length es) h.found.entries ∙ txn_refs-length 1 (txns_in bytes)
 
 pub writes-length : (bytes : List ℕ) (tables : List TableDef) (index : Index) → HoldsLog bytes tables index → length index.places.items ≡ length (writes_of (txns_in bytes))
 writes-length bytes tables index h =
@@ -27,18 +27,18 @@ writes-length bytes tables index h =
     omega (arith, closed, open-length bytes tables (found_in index) (txns_in bytes) [] h.found)
 
 pub entry-at : (bytes : List ℕ) (tables : List TableDef) (index : Index) (p : ℕ) (entry : TxnRef) → HoldsLog bytes tables index → p < length (txns_in bytes) → entry ≡ get_or index.txns.items p entry
-    → Some entry ≡ option_map (entry_of (length (writes_of (take p (txns_in bytes))) + 1)) (slice_get (txns_in bytes) p)
+    → Some entry ≡ option_map (txn_ref_of (length (writes_of (take p (txns_in bytes))) + 1)) (slice_get (txns_in bytes) p)
 entry-at bytes tables index p entry h within is =
     let txns = txns_in bytes in
     let same : 1 + length (writes_of (take p txns)) ≡ length (writes_of (take p txns)) + 1 = omega arith in
     sym (slice_get_read index.txns.items (length txns) p entry (sym (txns-length bytes tables index h)) within is)
     ∙ ap (λ (es : List TxnRef). slice_get es p) h.found.entries
-    ∙ entries_of-get 1 txns p
-    ∙ ap (λ (n : ℕ). option_map (entry_of n) (slice_get txns p)) same
+    ∙ txn_refs-get 1 txns p
+    ∙ ap (λ (n : ℕ). option_map (txn_ref_of n) (slice_get txns p)) same
 
-pub entry-is : (first : ℕ) (entry : TxnRef) (o : Option Txn) → Some entry ≡ option_map (entry_of first) o → (txn : Txn) × (o ≡ Some txn) × (entry ≡ entry_of first txn)
+pub entry-is : (first : ℕ) (entry : TxnRef) (o : Option Txn) → Some entry ≡ option_map (txn_ref_of first) o → (txn : Txn) × (o ≡ Some txn) × (entry ≡ txn_ref_of first txn)
 entry-is first entry None e = absurd cc
-entry-is first entry (Some txn) e = (txn, refl, same entry (entry_of first txn) e)
+entry-is first entry (Some txn) e = (txn, refl, same entry (txn_ref_of first txn) e)
   where
     same : (a b : TxnRef) → Some a ≡ Some b → a ≡ b
     same a b e = cc
@@ -65,7 +65,7 @@ writes-at (t ∷ txns) (suc p) txn i k found lt at =
     slice_get-behind t.writes (writes_of txns) k (length (writes_of (take p txns)) + i) before
     ∙ writes-at txns p txn i (length (writes_of (take p txns)) + i) found lt refl
 
-pub entry-within : (txns : List Txn) (p : ℕ) (entry : TxnRef) → Some entry ≡ option_map (entry_of (length (writes_of (take p txns)) + 1)) (slice_get txns p) → entry.first + entry.count ≤ length (writes_of txns) + 1
+pub entry-within : (txns : List Txn) (p : ℕ) (entry : TxnRef) → Some entry ≡ option_map (txn_ref_of (length (writes_of (take p txns)) + 1)) (slice_get txns p) → entry.first + entry.count ≤ length (writes_of txns) + 1
 entry-within txns p entry e =
     let found = entry-is (length (writes_of (take p txns)) + 1) entry (slice_get txns p) e in
     let txn = found.0 in
@@ -76,7 +76,7 @@ entry-within txns p entry e =
     let same : length (get_or txns p txn).writes ≡ length txn.writes = ap (λ (t : Txn). length t.writes) at in
     omega (arith, most, first, count, same)
 
-pub entry-writes : (txns : List Txn) (p : ℕ) (entry : TxnRef) → Some entry ≡ option_map (entry_of (length (writes_of (take p txns)) + 1)) (slice_get txns p)
+pub entry-writes : (txns : List Txn) (p : ℕ) (entry : TxnRef) → Some entry ≡ option_map (txn_ref_of (length (writes_of (take p txns)) + 1)) (slice_get txns p)
     → IfSome (slice_get txns p) (λ txn. (i : ℕ) → i < entry.count → slice_get (writes_of txns) (entry.first + i - 1) ≡ slice_get txn.writes i)
 entry-writes txns p entry e =
     let found = entry-is (length (writes_of (take p txns)) + 1) entry (slice_get txns p) e in

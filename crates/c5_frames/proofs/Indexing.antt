@@ -10,7 +10,7 @@ use Rattle.c5_rows.specs.declared.writes.Txn.{Txn}
 use Rattle.c5_definitions.specs.Frames.{frame_at}
 use Rattle.c5_frames.specs.declared.index.Place.{Place}
 use Rattle.c5_frames.specs.declared.index.TxnRef.{TxnRef}
-use Rattle.c5_frames.specs.Index.{Found, with_place, with_txn, writes_of, entry_of, entries_of, payload_at, LiesAt, LieAt, IsIndex}
+use Rattle.c5_frames.specs.Index.{Found, with_place, with_txn, writes_of, txn_ref_of, txn_refs_from, payload_at, LiesAt, LieAt, IsIndex}
 
 -- ---- places
 
@@ -67,22 +67,22 @@ LieAt-get bytes tables (place ∷ places) (w ∷ writes) (suc i) d h lt = LieAt-
 pub writes_of-push : (txns : List Txn) (txn : Txn) → writes_of (txns ++ txn ∷ []) ≡ writes_of txns ++ txn.writes
 writes_of-push txns txn = flat_map-append (λ (t : Txn). t.writes) txns (txn ∷ []) ∙ ap (λ (ws : List Write). writes_of txns ++ ws) (append-nil txn.writes)
 
-pub entries_of-push : (first : ℕ) (txns : List Txn) (txn : Txn) → entries_of first (txns ++ txn ∷ []) ≡ entries_of first txns ++ entry_of (first + length (writes_of txns)) txn ∷ []
-entries_of-push first [] txn = ap (λ (n : ℕ). entry_of n txn ∷ []) (omega arith)
-entries_of-push first (t ∷ txns) txn =
+pub txn_refs-push : (first : ℕ) (txns : List Txn) (txn : Txn) → txn_refs_from first (txns ++ txn ∷ []) ≡ txn_refs_from first txns ++ txn_ref_of (first + length (writes_of txns)) txn ∷ []
+txn_refs-push first [] txn = ap (λ (n : ℕ). txn_ref_of n txn ∷ []) (omega arith)
+txn_refs-push first (t ∷ txns) txn =
     let e : first + length t.writes + length (writes_of txns) ≡ first + length (t.writes ++ writes_of txns) = omega (arith, length-append t.writes (writes_of txns)) in
-    ap (λ (es : List TxnRef). entry_of first t ∷ es) (entries_of-push (first + length t.writes) txns txn ∙ ap (λ (n : ℕ). entries_of (first + length t.writes) txns ++ entry_of n txn ∷ []) e)
+    ap (λ (es : List TxnRef). txn_ref_of first t ∷ es) (txn_refs-push (first + length t.writes) txns txn ∙ ap (λ (n : ℕ). txn_refs_from (first + length t.writes) txns ++ txn_ref_of n txn ∷ []) e)
 
-pub entries_of-length : (first : ℕ) (txns : List Txn) → length (entries_of first txns) ≡ length txns
-entries_of-length first [] = refl
-entries_of-length first (txn ∷ txns) = let e = entries_of-length (first + length txn.writes) txns in omega (arith, e)
+pub txn_refs-length : (first : ℕ) (txns : List Txn) → length (txn_refs_from first txns) ≡ length txns
+txn_refs-length first [] = refl
+txn_refs-length first (txn ∷ txns) = let e = txn_refs-length (first + length txn.writes) txns in omega (arith, e)
 
-pub entries_of-get : (first : ℕ) (txns : List Txn) (p : ℕ) → slice_get (entries_of first txns) p ≡ option_map (entry_of (first + length (writes_of (take p txns)))) (slice_get txns p)
-entries_of-get first [] p = refl
-entries_of-get first (txn ∷ txns) zero = ap (λ (n : ℕ). Some (entry_of n txn)) (omega arith)
-entries_of-get first (txn ∷ txns) (suc p) =
+pub txn_refs-get : (first : ℕ) (txns : List Txn) (p : ℕ) → slice_get (txn_refs_from first txns) p ≡ option_map (txn_ref_of (first + length (writes_of (take p txns)))) (slice_get txns p)
+txn_refs-get first [] p = refl
+txn_refs-get first (txn ∷ txns) zero = ap (λ (n : ℕ). Some (txn_ref_of n txn)) (omega arith)
+txn_refs-get first (txn ∷ txns) (suc p) =
     let e : first + length txn.writes + length (writes_of (take p txns)) ≡ first + length (txn.writes ++ writes_of (take p txns)) = omega (arith, length-append txn.writes (writes_of (take p txns))) in
-    entries_of-get (first + length txn.writes) txns p ∙ ap (λ (n : ℕ). option_map (entry_of n) (slice_get txns p)) e
+    txn_refs-get (first + length txn.writes) txns p ∙ ap (λ (n : ℕ). option_map (txn_ref_of n) (slice_get txns p)) e
 
 -- ---- an index
 
@@ -112,9 +112,9 @@ IsIndex-marked bytes tables f txns writes script stamp h =
     let first : f.closed + 1 ≡ 1 + length (writes_of txns) = omega (arith, closed) in
     let count : length f.places - f.closed ≡ length writes = omega (arith, open_is) in
     let entry : TxnRef = record { script = script; stamp = stamp; first = f.closed + 1; count = length f.places - f.closed } in
-    let same : entry ≡ entry_of (1 + length (writes_of txns)) txn = ap (λ (n : ℕ). record { script = script; stamp = stamp; first = n; count = length f.places - f.closed }) first ∙ ap (λ (n : ℕ). record { script = script; stamp = stamp; first = 1 + length (writes_of txns); count = n }) count in
+    let same : entry ≡ txn_ref_of (1 + length (writes_of txns)) txn = ap (λ (n : ℕ). record { script = script; stamp = stamp; first = n; count = length f.places - f.closed }) first ∙ ap (λ (n : ℕ). record { script = script; stamp = stamp; first = 1 + length (writes_of txns); count = n }) count in
     record {
-      entries = ap (λ (es : List TxnRef). es ++ entry ∷ []) h.entries ∙ ap (λ (e : TxnRef). entries_of 1 txns ++ e ∷ []) same ∙ sym (entries_of-push 1 txns txn);
+      entries = ap (λ (es : List TxnRef). es ++ entry ∷ []) h.entries ∙ ap (λ (e : TxnRef). txn_refs_from 1 txns ++ e ∷ []) same ∙ sym (txn_refs-push 1 txns txn);
       closed = open_is ∙ ap (λ (n : ℕ). n + length writes) closed ∙ sym (length-append (writes_of txns) writes) ∙ sym (ap length all);
       places = subst (LieAt bytes tables f.places) (sym all ∙ sym (append-nil (writes_of (txns ++ txn ∷ [])))) h.places;
     }

@@ -178,7 +178,7 @@ pub write-sized : (tables : List TableDef) (entry : Write) → AllByRecursion Is
 unfolding write_payload
 write-sized tables entry each lawful =
     let table = table-again tables entry lawful.fits in
-    let few = (table-lawful tables entry.name.table table.0 each table.1).at_most_eight in
+    let few = (table-lawful tables entry.name.table table.0 each table.1).few in
     let low = lawful.key.no_shorter in
     let high = lawful.key.no_longer in
     let key = entry.name.key in

@@ -16,20 +16,20 @@ use Rattle.c5_definitions.specs.Lawful.{IsLawfulTable, IsLawfulWrite, IsLawfulTx
 use Rattle.c5_definitions.specs.Spelling.{spelled_u32, write_payload, mark_payload, end_payload, spelled_frame, spelled_txn, spelled_header, spelled_log}
 use Rattle.c5_definitions.specs.Numbers.{number_32}
 use Rattle.c5_definitions.specs.Frames.{Frame, write, mark, end, frame_at}
-use Rattle.c5_definitions.specs.Items.{the_magic, frame_length, frame_payload, nothing_more, SoFar, is_above, last_of, expecting, after_write, after_mark, after_end, after_frame, after_item}
+use Rattle.c5_definitions.specs.Items.{the_magic, frame_length, frame_payload, nothing_more, LogSoFar, is_above, last_of, expecting, after_write, after_mark, after_end, after_frame, after_item}
 use Rattle.c5_frames.proofs.LawAgain.{IsSized, u32-again, u32-length, write-again, write-sized, mark-again, mark-sized, end-again, end-sized}
 use Rattle.c5_frames.proofs.LawWalk.{Reads, reads-nothing, reads-item, in_header, header-read}
 
 -- ---- one frame
 
 -- what a frame leaves doesn't depend on the item that it was
-pub after_frame-any : (s : SoFar) (size : ℕ) (frame : Frame) → after_frame (expecting s (frame_payload size)) frame ≡ after_frame s frame
+pub after_frame-any : (s : LogSoFar) (size : ℕ) (frame : Frame) → after_frame (expecting s (frame_payload size)) frame ≡ after_frame s frame
 unfolding after_frame after_write after_mark after_end
 after_frame-any s size (write entry) = refl
 after_frame-any s size (mark numbers) = refl
 after_frame-any s size (end count) = refl
 
-pub frame-read : (s next last : SoFar) (payload rest : List ℕ) (frame : Frame) → s.next ≡ frame_length → IsSized payload → frame_at s.tables payload ≡ Ok frame → after_frame s frame ≡ Ok next
+pub frame-read : (s next last : LogSoFar) (payload rest : List ℕ) (frame : Frame) → s.next ≡ frame_length → IsSized payload → frame_at s.tables payload ≡ Ok frame → after_frame s frame ≡ Ok next
     → Reads next rest last → Reads s (spelled_frame payload ++ rest) last
 unfolding spelled_frame after_item
 frame-read s next last payload rest frame item sized found e more =
@@ -71,13 +71,13 @@ is_above-last (first ∷ writes) entry more up =
     ap (is_above entry.name) (slice_get-get_or all i first within) ∙ ap is_gt greater
 
 -- before a frame
-abbrev pub in_frames : List TableDef → List Txn → List Write → ℕ → SoFar
+abbrev pub in_frames : List TableDef → List Txn → List Write → ℕ → LogSoFar
 in_frames tables txns writes stamp = record { tables = tables; txns = txns; writes = writes; stamp = stamp; next = frame_length }
 
 abbrev pub spelled_write : Write → List ℕ
 spelled_write entry = spelled_frame (write_payload entry)
 
-writes-read : (tables : List TableDef) (txns : List Txn) (stamp : ℕ) (writes more : List Write) (rest : List ℕ) (last : SoFar) → AllByRecursion IsLawfulTable tables → AllByRecursion (IsLawfulWrite tables) more → IsAscending (writes ++ more)
+writes-read : (tables : List TableDef) (txns : List Txn) (stamp : ℕ) (writes more : List Write) (rest : List ℕ) (last : LogSoFar) → AllByRecursion IsLawfulTable tables → AllByRecursion (IsLawfulWrite tables) more → IsAscending (writes ++ more)
     → Reads (in_frames tables txns (writes ++ more) stamp) rest last → Reads (in_frames tables txns writes stamp) (flat_map spelled_write more ++ rest) last
 unfolding after_frame after_write
 writes-read tables txns stamp writes [] rest last each lawful up then = subst (λ (ws : List Write). Reads (in_frames tables txns ws stamp) rest last) (append-nil writes) then
@@ -98,7 +98,7 @@ abbrev pub last_stamp : ℕ → List Txn → ℕ
 last_stamp last [] = last
 last_stamp last (txn ∷ txns) = last_stamp txn.stamp txns
 
-txns-read : (tables : List TableDef) (before : List Txn) (stamp : ℕ) (txns : List Txn) (rest : List ℕ) (last : SoFar) → AllByRecursion IsLawfulTable tables → AllByRecursion (IsLawfulTxn tables) txns → StampsRise stamp txns
+txns-read : (tables : List TableDef) (before : List Txn) (stamp : ℕ) (txns : List Txn) (rest : List ℕ) (last : LogSoFar) → AllByRecursion IsLawfulTable tables → AllByRecursion (IsLawfulTxn tables) txns → StampsRise stamp txns
     → Reads (in_frames tables (before ++ txns) [] (last_stamp stamp txns)) rest last → Reads (in_frames tables before [] stamp) (flat_map spelled_txn txns ++ rest) last
 unfolding spelled_txn after_frame after_mark
 txns-read tables before stamp [] rest last each lawful rise then = subst (λ (ts : List Txn). Reads (in_frames tables ts [] stamp) rest last) (append-nil before) then
@@ -121,7 +121,7 @@ txns-read tables before stamp (txn ∷ txns) rest last each lawful rise then =
 -- ---- a whole log
 
 -- behind the end mark
-abbrev pub ended : List TableDef → List Txn → SoFar
+abbrev pub ended : List TableDef → List Txn → LogSoFar
 ended tables txns = record { tables = tables; txns = txns; writes = []; stamp = last_stamp 0 txns; next = nothing_more }
 
 end-read : (tables : List TableDef) (txns : List Txn) → length txns < 2 ^ 32 → Reads (in_frames tables txns [] (last_stamp 0 txns)) (spelled_frame (end_payload (length txns))) (ended tables txns)

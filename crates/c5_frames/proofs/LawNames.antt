@@ -3,7 +3,7 @@ use Rattle.std.proofs.Common.{◌≡◌, ◌∙◌, ◌+◌, ℕ, Bool, true, fa
 use Rattle.std.specs.Str.{bytes_eq}
 use Rattle.std.specs.List.{AllByRecursion}
 use Rattle.std.proofs.lemmas.Cmp.{nat_list_eq_equiv}
-use Rattle.c5_rows.specs.Tables.{table_from, table_of, HaveNames}
+use Rattle.c5_rows.specs.Tables.{table_number_from, table_number, HaveNames}
 use Rattle.c5_rows.specs.declared.tables.TableDef.{TableDef}
 
 pub AllByRecursion-push : {A : Type 0} (P : A → Type 0) (xs : List A) (x : A) → AllByRecursion P xs → P x → AllByRecursion P (xs ++ x ∷ [])
@@ -13,7 +13,7 @@ AllByRecursion-push P (y ∷ ys) x all one = (all.0, AllByRecursion-push P ys x 
 -- the names of tables differ from those of the tables before them
 abbrev pub FreeOf : List TableDef → List TableDef → Type 0
 FreeOf earlier [] = Unit {0}
-FreeOf earlier (table ∷ tables) = (table_of table.name earlier ≡ None) × FreeOf (earlier ++ table ∷ []) tables
+FreeOf earlier (table ∷ tables) = (table_number table.name earlier ≡ None) × FreeOf (earlier ++ table ∷ []) tables
 
 -- ---- the names of a schema are new, each behind those before it
 
@@ -28,13 +28,13 @@ here : {A : Type 0} (b : Bool) (x : A) (o : Option A) → cond b (Some x) o ≡ 
 here true x o e = absurd cc
 here false x o e = (refl, e)
 
-none_has : (n : ℕ) (name : List ℕ) (tables : List TableDef) → table_from n name tables ≡ None → NoneHas name tables
+none_has : (n : ℕ) (name : List ℕ) (tables : List TableDef) → table_number_from n name tables ≡ None → NoneHas name tables
 none_has n name [] e = tt
 none_has n name (table ∷ tables) e =
-    let h = here (bytes_eq table.name name) n (table_from (n + 1) name tables) e in
+    let h = here (bytes_eq table.name name) n (table_number_from (n + 1) name tables) e in
     (h.0, none_has (n + 1) name tables h.1)
 
-has_none : (n : ℕ) (name : List ℕ) (tables : List TableDef) → NoneHas name tables → table_from n name tables ≡ None
+has_none : (n : ℕ) (name : List ℕ) (tables : List TableDef) → NoneHas name tables → table_number_from n name tables ≡ None
 has_none n name [] none = refl
 has_none n name (table ∷ tables) none = rw none.0 (has_none (n + 1) name tables none.1)
 
@@ -65,14 +65,14 @@ none_here : (b : Bool) (n : ℕ) (r : Option ℕ) → cond b (Some n) r ≡ None
 none_here true n r e = absurd cc
 none_here false n r e = (refl, e)
 
-table_from-push : (n : ℕ) (name : List ℕ) (tables : List TableDef) (table : TableDef) → table_from n name tables ≡ None → bytes_eq table.name name ≡ false → table_from n name (tables ++ table ∷ []) ≡ None
-table_from-push n name [] table none other = rw other refl
-table_from-push n name (first ∷ tables) table none other =
-    let here = none_here (bytes_eq first.name name) n (table_from (n + 1) name tables) none in
-    rw here.0 (table_from-push (n + 1) name tables table here.1 other)
+table_number_from-push : (n : ℕ) (name : List ℕ) (tables : List TableDef) (table : TableDef) → table_number_from n name tables ≡ None → bytes_eq table.name name ≡ false → table_number_from n name (tables ++ table ∷ []) ≡ None
+table_number_from-push n name [] table none other = rw other refl
+table_number_from-push n name (first ∷ tables) table none other =
+    let here = none_here (bytes_eq first.name name) n (table_number_from (n + 1) name tables) none in
+    rw here.0 (table_number_from-push (n + 1) name tables table here.1 other)
 
-pub HaveNames-push : (n : ℕ) (tables : List TableDef) (table : TableDef) → HaveNames tables → table_from n table.name tables ≡ None → HaveNames (tables ++ table ∷ [])
+pub HaveNames-push : (n : ℕ) (tables : List TableDef) (table : TableDef) → HaveNames tables → table_number_from n table.name tables ≡ None → HaveNames (tables ++ table ∷ [])
 HaveNames-push n [] table names none = (refl, tt)
 HaveNames-push n (first ∷ tables) table names none =
-    let here = none_here (bytes_eq first.name table.name) n (table_from (n + 1) table.name tables) none in
-    (table_from-push 0 first.name tables table names.0 (nat_list_eq_equiv.symm table.name first.name ∙ here.0), HaveNames-push (n + 1) tables table names.1 here.1)
+    let here = none_here (bytes_eq first.name table.name) n (table_number_from (n + 1) table.name tables) none in
+    (table_number_from-push 0 first.name tables table names.0 (nat_list_eq_equiv.symm table.name first.name ∙ here.0), HaveNames-push (n + 1) tables table names.1 here.1)

@@ -5,7 +5,7 @@ use Rattle.c5_definitions.specs.declared.fault.LogKind.{LogKind}
 use Rattle.c5_definitions.specs.declared.fault.LogKind.TheVariants as kinds
 use Rattle.c5_definitions.specs.declared.fault.LogFault.{LogFault}
 use Rattle.c5_definitions.specs.Steps.{◌>>=◌}
-use Rattle.c5_definitions.specs.Items.{Item, the_magic, table_count, name_length, table_name, column_count, column_types, frame_length, frame_payload, nothing_more, SoFar, after_item, Reading, begin_of, after_whole, after_byte, after_bytes, at_start, LogParts, whole_from, whole, log_of}
+use Rattle.c5_definitions.specs.Items.{Item, the_magic, table_count, name_length, table_name, column_count, column_types, frame_length, frame_payload, nothing_more, LogSoFar, after_item, Reading, begin_of, after_whole, after_byte, after_bytes, at_start, LogParts, whole_from, whole, log_of}
 
 -- how many bytes have been read
 abbrev pub count_of : Reading → ℕ
@@ -34,7 +34,7 @@ whole-counts : (r : Reading) (bytes : List ℕ) → Counts (r.offset + length by
 unfolding after_whole
 whole-counts r bytes = by_item (after_item r.so_far.next r.so_far bytes) r bytes
   where
-    by_item : (found : Result SoFar LogKind) (r : Reading) (bytes : List ℕ) → Counts (r.offset + length bytes) (elim found as (λ _. Result Reading LogFault) [ Ok s ↦ Ok (record { so_far = s; offset = r.offset + length bytes; come = [] }) | Err cause ↦ Err (record { offset = begin_of r.so_far.next r.offset; kind = cause }) ])
+    by_item : (found : Result LogSoFar LogKind) (r : Reading) (bytes : List ℕ) → Counts (r.offset + length bytes) (elim found as (λ _. Result Reading LogFault) [ Ok s ↦ Ok (record { so_far = s; offset = r.offset + length bytes; come = [] }) | Err cause ↦ Err (record { offset = begin_of r.so_far.next r.offset; kind = cause }) ])
     by_item (Ok s) r bytes = omega arith
     by_item (Err cause) r bytes = omega (arith, begin-within r.so_far.next r.offset)
 

@@ -4,18 +4,17 @@ use Rattle.std.proofs.lemmas.Bool.{cases_lt}
 use Rattle.std.proofs.lemmas.List.{get_or_past}
 use Rattle.c5_rows.specs.declared.tables.TableDef.{TableDef}
 use Rattle.c5_rows.specs.declared.writes.Txn.{Txn}
-use Rattle.c5_definitions.specs.declared.fault.LogKind.{LogKind}
 use Rattle.c5_definitions.specs.declared.fault.LogKind.TheVariants as kinds
 use Rattle.c5_definitions.specs.declared.fault.LogFault.{LogFault}
 use Rattle.c5_definitions.specs.Lawful.{Spells}
 use Rattle.c5_definitions.specs.Steps.{◌>>=◌}
-use Rattle.c5_definitions.specs.Items.{Item, the_magic, table_count, name_length, table_name, column_count, column_types, frame_length, frame_payload, nothing_more, Reading, after_item, after_whole, after_byte, after_bytes, at_start, LogParts, whole_from, whole, log_of, fault_of}
+use Rattle.c5_definitions.specs.Items.{Item, the_magic, table_count, name_length, table_name, column_count, column_types, frame_length, frame_payload, nothing_more, Reading, after_item, after_whole, after_byte, after_bytes, at_start, begin_of, LogParts, whole_from, whole, log_of, log_fault_of}
 use Rattle.c5_frames.specs.Laws.{AreOctets}
 use Rattle.c5_frames.proofs.LawBytes.{after_bytes-append}
 use Rattle.c5_frames.proofs.LawFields.{done, ok_is}
 use Rattle.c5_frames.proofs.LawWalk.{at_item}
 use Rattle.c5_frames.proofs.LawFrames.{log-read, ended}
-use Rattle.c5_frames.proofs.LawOffsets.{log_of-within}
+use Rattle.c5_frames.proofs.LawOffsets.{log_of-within, after_bytes-count}
 use Rattle.c5_frames.proofs.LawSound.{log_is_spelled}
 
 -- each place of a list of bytes, also one behind its end, which counts as 0
@@ -63,22 +62,23 @@ pub after_end-byte : (tables : List TableDef) (txns : List Txn) (stop byte : ℕ
 unfolding after_bytes after_byte after_whole after_item
 after_end-byte tables txns stop byte bytes = refl
 
-pub log-then-more : (front : List ℕ) (byte : ℕ) (rest : List ℕ) (tables : List TableDef) (txns : List Txn) → Spells front tables txns → (stop : ℕ) × (log_of (front ++ byte ∷ rest) ≡ Err (record { offset = stop; kind = kinds.After }))
+pub log-then-more : (front : List ℕ) (byte : ℕ) (rest : List ℕ) (tables : List TableDef) (txns : List Txn) → Spells front tables txns → log_of (front ++ byte ∷ rest) ≡ Err (record { offset = length front; kind = kinds.After })
 unfolding log_of
 log-then-more front byte rest tables txns spells =
-    let read = spells-after_bytes front tables txns spells in (
-      read.0,
-      ap (λ (r : Result Reading LogFault). r >>= whole)
-          (after_bytes-append at_start front (byte ∷ rest)
-          ∙ ap (λ (r : Result Reading LogFault). r >>= λ next. after_bytes next (byte ∷ rest)) read.1
-          ∙ after_end-byte tables txns read.0 byte rest),
-    )
+    let read = spells-after_bytes front tables txns spells in
+    let all = after_bytes-count at_start (at_item (ended tables txns) read.0) front read.1 in
+    let stop : read.0 ≡ length front = omega (arith, all) in
+    ap (λ (r : Result Reading LogFault). r >>= whole)
+    (after_bytes-append at_start front (byte ∷ rest)
+    ∙ ap (λ (r : Result Reading LogFault). r >>= λ next. after_bytes next (byte ∷ rest)) read.1
+    ∙ after_end-byte tables txns read.0 byte rest
+    ∙ ap (λ (offset : ℕ). Err (record { offset = offset; kind = kinds.After })) stop)
 
 pub spells-no_prefix : (front rest : List ℕ) (tables others : List TableDef) (txns more : List Txn) → Spells front tables txns → Spells (front ++ rest) others more → rest ≡ []
 spells-no_prefix front [] tables others txns more a b = refl
 spells-no_prefix front (byte ∷ rest) tables others txns more a b =
     let after = log-then-more front byte rest tables txns a in
-    absurd (never (record { tables = others; txns = more }) _ (log_of (front ++ byte ∷ rest)) (spells-log_of (front ++ byte ∷ rest) others more b) after.1)
+    absurd (never (record { tables = others; txns = more }) _ (log_of (front ++ byte ∷ rest)) (spells-log_of (front ++ byte ∷ rest) others more b) after)
 
 -- ---- faults
 
@@ -135,46 +135,62 @@ some_in (Err cause) fault e =
     let same : cause ≡ fault = cc in
     ap (λ (f : LogFault). Err f) same
 
-pub fault_of-none : (bytes : List ℕ) → fault_of bytes ≡ None → (log : LogParts) × (log_of bytes ≡ Ok log)
-unfolding fault_of
-fault_of-none bytes e = none_in (log_of bytes) e
+pub log_fault_of-none : (bytes : List ℕ) → log_fault_of bytes ≡ None → (log : LogParts) × (log_of bytes ≡ Ok log)
+unfolding log_fault_of
+log_fault_of-none bytes e = none_in (log_of bytes) e
 
-pub fault_of-some : (bytes : List ℕ) (fault : LogFault) → fault_of bytes ≡ Some fault → log_of bytes ≡ Err fault
-unfolding fault_of
-fault_of-some bytes fault e = some_in (log_of bytes) fault e
+pub log_fault_of-some : (bytes : List ℕ) (fault : LogFault) → log_fault_of bytes ≡ Some fault → log_of bytes ≡ Err fault
+unfolding log_fault_of
+log_fault_of-some bytes fault e = some_in (log_of bytes) fault e
 
-pub fault_of-ok : (bytes : List ℕ) (log : LogParts) → log_of bytes ≡ Ok log → fault_of bytes ≡ None
-unfolding fault_of
-fault_of-ok bytes log e = ap fault_in e
+pub log_fault_of-ok : (bytes : List ℕ) (log : LogParts) → log_of bytes ≡ Ok log → log_fault_of bytes ≡ None
+unfolding log_fault_of
+log_fault_of-ok bytes log e = ap fault_in e
 
-pub fault_of-err : (bytes : List ℕ) (fault : LogFault) → log_of bytes ≡ Err fault → fault_of bytes ≡ Some fault
-unfolding fault_of
-fault_of-err bytes fault e = ap fault_in e
+pub log_fault_of-err : (bytes : List ℕ) (fault : LogFault) → log_of bytes ≡ Err fault → log_fault_of bytes ≡ Some fault
+unfolding log_fault_of
+log_fault_of-err bytes fault e = ap fault_in e
 
-pub fault_of-stays : (front rest : List ℕ) (fault : LogFault) → fault_of front ≡ Some fault → fault.kind ≢ kinds.Cut → fault_of (front ++ rest) ≡ Some fault
-fault_of-stays front rest fault e other =
-    fault_of-err (front ++ rest) fault (fault-stays front rest fault (found-before front fault (fault_of-some front fault e) other))
+pub log_fault_of-stays : (front rest : List ℕ) (fault : LogFault) → log_fault_of front ≡ Some fault → fault.kind ≢ kinds.Cut → log_fault_of (front ++ rest) ≡ Some fault
+log_fault_of-stays front rest fault e other =
+    log_fault_of-err (front ++ rest) fault (fault-stays front rest fault (found-before front fault (log_fault_of-some front fault e) other))
 
 -- ---- the fronts of a log
 
-is_cut : (kind : LogKind) → (kind ≡ kinds.Cut) ⊎ (kind ≢ kinds.Cut)
-is_cut kinds.Cut = inl refl
-is_cut other = inr (λ e. absurd cc)
+-- at the end of the input an item other than the last one is cut
+cut-at : (item : Item) (r : Reading) → (((log : LogParts) × (whole_from item r ≡ Ok log)) ⊎ (whole_from item r ≡ Err (record { offset = begin_of item r.offset; kind = kinds.Cut })))
+unfolding whole_from
+cut-at nothing_more r = inl (record { tables = r.so_far.tables; txns = r.so_far.txns }, refl)
+cut-at the_magic r = inr refl
+cut-at table_count r = inr refl
+cut-at (name_length missing) r = inr refl
+cut-at (table_name missing size) r = inr refl
+cut-at (column_count missing name) r = inr refl
+cut-at (column_types missing name size) r = inr refl
+cut-at frame_length r = inr refl
+cut-at (frame_payload size) r = inr refl
 
-pub front-cut : (front rest : List ℕ) → AreOctets front → (tables : List TableDef) (txns : List Txn) → Spells (front ++ rest) tables txns → rest ≢ [] → (fault : LogFault) × (fault_of front ≡ Some fault) × (fault.kind ≡ kinds.Cut)
+log_of-at : (bytes : List ℕ) (r : Reading) (out : Result LogParts LogFault) → after_bytes at_start bytes ≡ Ok r → whole_from r.so_far.next r ≡ out → log_of bytes ≡ out
+unfolding log_of whole
+log_of-at bytes r out e at = ap (λ (found : Result Reading LogFault). found >>= whole) e ∙ at
+
+pub front-cut : (front rest : List ℕ) → AreOctets front → (tables : List TableDef) (txns : List Txn) → Spells (front ++ rest) tables txns → rest ≢ []
+    → (r : Reading) × (after_bytes at_start front ≡ Ok r) × (log_fault_of front ≡ Some (record { offset = begin_of r.so_far.next r.offset; kind = kinds.Cut }))
 front-cut front rest octets tables txns spells some =
-    elim (fault_of front) as (λ (o : Option LogFault). fault_of front ≡ o → (fault : LogFault) × (fault_of front ≡ Some fault) × (fault.kind ≡ kinds.Cut)) [
-      | None ↦ λ e.
-          let log = fault_of-none front e in
-          absurd (some (spells-no_prefix front rest log.0.tables tables log.0.txns txns (log_of-octets front octets log.0 log.1) spells))
-      | Some fault ↦ λ e. elim (is_cut fault.kind) [
-        | inl cut ↦ (fault, e, cut)
-        | inr other ↦
-            let stays = fault_of-stays front rest fault e other in
-            let none = fault_of-ok (front ++ rest) (record { tables = tables; txns = txns }) (spells-log_of (front ++ rest) tables txns spells) in
-            absurd cc
+    elim (after_bytes at_start front) as (λ (o : Result Reading LogFault). after_bytes at_start front ≡ o → (r : Reading) × (after_bytes at_start front ≡ Ok r) × (log_fault_of front ≡ Some (record { offset = begin_of r.so_far.next r.offset; kind = kinds.Cut }))) [
+      | Err fault ↦ λ e. absurd (never (record { tables = tables; txns = txns }) fault (log_of (front ++ rest)) (spells-log_of (front ++ rest) tables txns spells) (fault-stays front rest fault e))
+      | Ok r ↦ λ e. elim (cut-at r.so_far.next r) [
+        | inl log ↦ absurd (some (spells-no_prefix front rest log.0.tables tables log.0.txns txns (log_of-octets front octets log.0 (log_of-at front r (Ok log.0) e log.1)) spells))
+        | inr cut ↦ (r, e, log_fault_of-err front (record { offset = begin_of r.so_far.next r.offset; kind = kinds.Cut }) (log_of-at front r (Err (record { offset = begin_of r.so_far.next r.offset; kind = kinds.Cut })) e cut))
       ]
     ] refl
 
-pub fault_of-within : (bytes : List ℕ) (fault : LogFault) → fault_of bytes ≡ Some fault → fault.offset ≤ length bytes
-fault_of-within bytes fault e = log_of-within bytes fault (fault_of-some bytes fault e)
+-- bytes after a log are the fault
+pub log-then-after : (log rest : List ℕ) (tables : List TableDef) (txns : List Txn) → Spells log tables txns → rest ≢ [] → log_fault_of (log ++ rest) ≡ Some (record { offset = length log; kind = kinds.After })
+log-then-after log [] tables txns spells some = absurd (some refl)
+log-then-after log (byte ∷ rest) tables txns spells some =
+    let after = log-then-more log byte rest tables txns spells in
+    log_fault_of-err (log ++ byte ∷ rest) (record { offset = length log; kind = kinds.After }) after
+
+pub log_fault_of-within : (bytes : List ℕ) (fault : LogFault) → log_fault_of bytes ≡ Some fault → fault.offset ≤ length bytes
+log_fault_of-within bytes fault e = log_of-within bytes fault (log_fault_of-some bytes fault e)

@@ -5,7 +5,7 @@ use Rattle.std.proofs.lemmas.List.{append-nil, length_push, nil_from_length, get
 use Rattle.c5_definitions.specs.declared.fault.LogKind.{LogKind}
 use Rattle.c5_definitions.specs.declared.fault.LogFault.{LogFault}
 use Rattle.c5_definitions.specs.Lawful.{Spells}
-use Rattle.c5_definitions.specs.Items.{Item, the_magic, table_count, name_length, table_name, column_count, column_types, frame_length, frame_payload, nothing_more, size_of, SoFar, after_item, Reading, begin_of, after_whole, after_byte, after_bytes, at_start, LogParts, whole_from, whole, log_of}
+use Rattle.c5_definitions.specs.Items.{Item, the_magic, table_count, name_length, table_name, column_count, column_types, frame_length, frame_payload, nothing_more, size_of, LogSoFar, after_item, Reading, begin_of, after_whole, after_byte, after_bytes, at_start, LogParts, whole_from, whole, log_of}
 use Rattle.c5_frames.proofs.LawFields.{IsBytes, IsBytes-append, IsBytes-rest, ok_is, bind_ok}
 use Rattle.c5_frames.proofs.LawStages.{text_before, IsHead, Stage, size-some, IsNext}
 use Rattle.c5_frames.proofs.LawHeaders.{magic_next, table_count_next, name_length_next, table_name_next, column_count_next, column_types_next}
@@ -13,7 +13,7 @@ use Rattle.c5_frames.proofs.LawTaken.{frame_length_next, frame_payload_next}
 
 -- ---- an item
 
-item_next : (item : Item) (s next : SoFar) (bytes : List ℕ) → IsBytes bytes → length bytes ≡ size_of item → IsHead s.tables → Stage item s → after_item item s bytes ≡ Ok next → IsNext (text_before item s) bytes next
+item_next : (item : Item) (s next : LogSoFar) (bytes : List ℕ) → IsBytes bytes → length bytes ≡ size_of item → IsHead s.tables → Stage item s → after_item item s bytes ≡ Ok next → IsNext (text_before item s) bytes next
 unfolding after_item
 item_next the_magic s next bytes fits len head stage e = magic_next s next bytes head stage e
 item_next table_count s next bytes fits len head stage e = table_count_next s next bytes len head stage e
@@ -46,12 +46,12 @@ IsBytes-push bytes byte fits small = IsBytes-append bytes (byte ∷ []) fits one
     one (suc i) = no_bytes i
 
 -- the item that has come whole passed its tests
-whole_ok : (r last : Reading) (bytes : List ℕ) → after_whole r bytes ≡ Ok last → (s : SoFar) × (after_item r.so_far.next r.so_far bytes ≡ Ok s) × (last ≡ record { so_far = s; offset = r.offset + length bytes; come = [] })
+whole_ok : (r last : Reading) (bytes : List ℕ) → after_whole r bytes ≡ Ok last → (s : LogSoFar) × (after_item r.so_far.next r.so_far bytes ≡ Ok s) × (last ≡ record { so_far = s; offset = r.offset + length bytes; come = [] })
 unfolding after_whole
 whole_ok r last bytes e = by_item (after_item r.so_far.next r.so_far bytes) r last bytes e
   where
-    by_item : (found : Result SoFar LogKind) (r last : Reading) (bytes : List ℕ) → elim found as (λ _. Result Reading LogFault) [ Ok s ↦ Ok (record { so_far = s; offset = r.offset + length bytes; come = [] }) | Err cause ↦ Err (record { offset = begin_of r.so_far.next r.offset; kind = cause }) ] ≡ Ok last
-        → (s : SoFar) × (found ≡ Ok s) × (last ≡ record { so_far = s; offset = r.offset + length bytes; come = [] })
+    by_item : (found : Result LogSoFar LogKind) (r last : Reading) (bytes : List ℕ) → elim found as (λ _. Result Reading LogFault) [ Ok s ↦ Ok (record { so_far = s; offset = r.offset + length bytes; come = [] }) | Err cause ↦ Err (record { offset = begin_of r.so_far.next r.offset; kind = cause }) ] ≡ Ok last
+        → (s : LogSoFar) × (found ≡ Ok s) × (last ≡ record { so_far = s; offset = r.offset + length bytes; come = [] })
     by_item (Ok s) r last bytes e = (s, refl, sym (ok_is {E = LogFault} _ last e))
     by_item (Err cause) r last bytes e = absurd cc
 

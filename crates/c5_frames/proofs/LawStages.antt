@@ -5,17 +5,17 @@ use Rattle.std.specs.List.{flat_map, AllByRecursion}
 use Rattle.std.proofs.lemmas.Bool.{eqb-true, ltb-false}
 use Rattle.std.proofs.lemmas.List.{nil_from_length}
 use Rattle.c5_rows.specs.Bytes.{IsTableName, checked_bytes, is_name_byte}
-use Rattle.c5_rows.specs.Tables.{table_of, HaveNames}
+use Rattle.c5_rows.specs.Tables.{table_number, HaveNames}
 use Rattle.c5_rows.specs.Writes.{IsAscending}
 use Rattle.c5_rows.specs.declared.cells.CellType.{CellType}
 use Rattle.c5_rows.specs.declared.cells.CellType.TheVariants as types
 use Rattle.c5_rows.specs.declared.tables.TableDef.{TableDef}
 use Rattle.c5_definitions.specs.declared.fault.LogKind.{LogKind}
 use Rattle.c5_definitions.specs.declared.fault.LogKind.TheVariants as kinds
-use Rattle.c5_definitions.specs.Lawful.{IsLawfulTable, IsLawfulWrite, IsLawfulTxn, StampsRise, IsLawful}
+use Rattle.c5_definitions.specs.Lawful.{IsLawfulTable, IsLawfulWrite, IsLawfulTxn, StampsRise, IsLawfulLog}
 use Rattle.c5_definitions.specs.Spelling.{magic, spelled_u32, spelled_type, spelled_table, spelled_header, spelled_txn, spelled_log}
 use Rattle.c5_definitions.specs.Steps.{◌>>=◌, or_cause}
-use Rattle.c5_definitions.specs.Items.{Item, the_magic, table_count, name_length, table_name, column_count, column_types, frame_length, frame_payload, nothing_more, size_of, SoFar, number_in, name_in, type_in, types_in}
+use Rattle.c5_definitions.specs.Items.{Item, the_magic, table_count, name_length, table_name, column_count, column_types, frame_length, frame_payload, nothing_more, size_of, LogSoFar, header_count, new_table_name, type_of_byte, types_of_bytes}
 use Rattle.c5_frames.proofs.LawFields.{passed, ok_is, bind_ok, or_cause-ok, checked-ok}
 use Rattle.c5_frames.proofs.LawFrames.{spelled_write, last_stamp}
 
@@ -26,10 +26,10 @@ abbrev pub head_text : List TableDef → ℕ → List ℕ
 head_text tables missing = magic ++ (length tables + missing) ∷ flat_map spelled_table tables
 
 -- the header, the transactions, and the writes since the last commit mark
-abbrev pub frames_text : SoFar → List ℕ
+abbrev pub frames_text : LogSoFar → List ℕ
 frames_text s = spelled_header s.tables ++ (flat_map spelled_txn s.txns ++ flat_map spelled_write s.writes)
 
-abbrev pub text_before : Item → SoFar → List ℕ
+abbrev pub text_before : Item → LogSoFar → List ℕ
 text_before the_magic s = []
 text_before table_count s = magic
 text_before (name_length missing) s = head_text s.tables missing
@@ -48,19 +48,19 @@ pub record IsHead (tables : List TableDef) : Type 0 where
   pub each : AllByRecursion IsLawfulTable tables
 
 -- no frame has been read
-pub record HasNone (s : SoFar) : Type 0 where
+pub record HasNone (s : LogSoFar) : Type 0 where
   pub txns : s.txns ≡ []
   pub writes : s.writes ≡ []
   pub stamp : s.stamp ≡ 0
 
 -- so many tables are still to come
-pub record IsComing (missing : ℕ) (s : SoFar) : Type 0 where
+pub record IsComing (missing : ℕ) (s : LogSoFar) : Type 0 where
   pub some : 1 ≤ missing
   pub few : length s.tables + missing ≤ 16
   pub none : HasNone s
 
 -- lawful transactions and writes
-pub record AreFrames (s : SoFar) : Type 0 where
+pub record AreFrames (s : LogSoFar) : Type 0 where
   pub some : 1 ≤ length s.tables
   pub few : length s.tables ≤ 16
   pub each_txn : AllByRecursion (IsLawfulTxn s.tables) s.txns
@@ -72,9 +72,9 @@ pub record AreFrames (s : SoFar) : Type 0 where
 -- a new name
 pub record IsNew (name : List ℕ) (tables : List TableDef) : Type 0 where
   pub lawful : IsTableName name
-  pub new : table_of name tables ≡ None
+  pub new : table_number name tables ≡ None
 
-abbrev pub Stage : Item → SoFar → Type 0
+abbrev pub Stage : Item → LogSoFar → Type 0
 Stage the_magic s = (s.tables ≡ []) × HasNone s
 Stage table_count s = (s.tables ≡ []) × HasNone s
 Stage (name_length missing) s = IsComing missing s
@@ -83,10 +83,10 @@ Stage (column_count missing name) s = IsComing missing s × IsNew name s.tables
 Stage (column_types missing name size) s = IsComing missing s × IsNew name s.tables × (1 ≤ size) × (size ≤ 8)
 Stage frame_length s = AreFrames s
 Stage (frame_payload size) s = AreFrames s × (1 ≤ size)
-Stage nothing_more s = IsLawful s.tables s.txns
+Stage nothing_more s = IsLawfulLog s.tables s.txns
 
 -- an item has bytes
-pub size-some : (item : Item) (s : SoFar) → Stage item s → 1 ≤ size_of item
+pub size-some : (item : Item) (s : LogSoFar) → Stage item s → 1 ≤ size_of item
 size-some the_magic s stage = omega arith
 size-some table_count s stage = omega arith
 size-some (name_length missing) s stage = omega arith
@@ -98,7 +98,7 @@ size-some (frame_payload size) s stage = stage.1
 size-some nothing_more s stage = omega arith
 
 -- an item more has been read
-pub record IsNext (before item : List ℕ) (next : SoFar) : Type 0 where
+pub record IsNext (before item : List ℕ) (next : LogSoFar) : Type 0 where
   pub head : IsHead next.tables
   pub stage : Stage next.next next
   pub text : text_before next.next next ≡ before ++ item
@@ -115,8 +115,8 @@ pub record IsCount (low high : ℕ) (bytes : List ℕ) (n : ℕ) : Type 0 where
   pub no_less : low ≤ n
   pub no_more : n ≤ high
 
-pub number_takes : (low high : ℕ) (bytes : List ℕ) (n : ℕ) → length bytes ≡ 1 → number_in low high bytes ≡ Ok n → IsCount low high bytes n
-unfolding number_in
+pub number_takes : (low high : ℕ) (bytes : List ℕ) (n : ℕ) → length bytes ≡ 1 → header_count low high bytes ≡ Ok n → IsCount low high bytes n
+unfolding header_count
 number_takes low high [] n len e = absurd cc
 number_takes low high (byte ∷ rest) n len e =
     let a = passed (ltb byte low || ltb high byte) kinds.Header (Ok byte) n e in
@@ -129,16 +129,16 @@ free_name : (taken : Option ℕ) (name x : List ℕ) → cond (is_some taken) (E
 free_name (Some n) name x e = absurd cc
 free_name None name x e = (refl, ok_is {E = LogKind} name x e)
 
-pub name_takes : (tables : List TableDef) (bytes name : List ℕ) → name_in tables bytes ≡ Ok name → (bytes ≡ name) × IsNew name tables
-unfolding name_in
+pub name_takes : (tables : List TableDef) (bytes name : List ℕ) → new_table_name tables bytes ≡ Ok name → (bytes ≡ name) × IsNew name tables
+unfolding new_table_name
 name_takes tables bytes name e =
-    let a = bind_ok (or_cause kinds.Header (checked_bytes 1 16 is_name_byte bytes)) (λ name. cond (is_some (table_of name tables)) (Err kinds.Header) (Ok name)) name e in
+    let a = bind_ok (or_cause kinds.Header (checked_bytes 1 16 is_name_byte bytes)) (λ name. cond (is_some (table_number name tables)) (Err kinds.Header) (Ok name)) name e in
     let c = checked-ok 1 16 is_name_byte bytes a.0 (or_cause-ok kinds.Header (checked_bytes 1 16 is_name_byte bytes) a.0 a.1) in
-    let f = free_name (table_of a.0 tables) a.0 name a.2 in
+    let f = free_name (table_number a.0 tables) a.0 name a.2 in
     subst (λ (n : List ℕ). (bytes ≡ n) × IsNew n tables) f.1 (sym c.0, record { lawful = c.1; new = f.0 })
 
-type_spelled : (byte : ℕ) (type : CellType) → type_in byte ≡ Ok type → byte ≡ spelled_type type
-unfolding type_in
+type_spelled : (byte : ℕ) (type : CellType) → type_of_byte byte ≡ Ok type → byte ≡ spelled_type type
+unfolding type_of_byte
 type_spelled byte type e =
     by_tests (eqb byte 1) (eqb byte 2) byte type (eqb-true byte 1) (eqb-true byte 2) e
   where
@@ -147,10 +147,10 @@ type_spelled byte type e =
     by_tests false true byte type one two e = two refl ∙ ap spelled_type (ok_is {E = LogKind} types.Text type e)
     by_tests false false byte type one two e = absurd cc
 
-pub types_spelled : (bytes : List ℕ) (columns : List CellType) → types_in bytes ≡ Ok columns → bytes ≡ map spelled_type columns
-unfolding types_in
+pub types_spelled : (bytes : List ℕ) (columns : List CellType) → types_of_bytes bytes ≡ Ok columns → bytes ≡ map spelled_type columns
+unfolding types_of_bytes
 types_spelled [] columns e = ap (map spelled_type) (ok_is {E = LogKind} [] columns e)
 types_spelled (byte ∷ bytes) columns e =
-    let a = bind_ok (type_in byte) (λ first. types_in bytes >>= λ others. Ok (first ∷ others)) columns e in
-    let b = bind_ok (types_in bytes) (λ others. Ok (a.0 ∷ others)) columns a.2 in
+    let a = bind_ok (type_of_byte byte) (λ first. types_of_bytes bytes >>= λ others. Ok (first ∷ others)) columns e in
+    let b = bind_ok (types_of_bytes bytes) (λ others. Ok (a.0 ∷ others)) columns a.2 in
     ap (λ (c : ℕ). c ∷ bytes) (type_spelled byte a.0 a.1) ∙ ap (λ (r : List ℕ). spelled_type a.0 ∷ r) (types_spelled bytes b.0 b.1) ∙ ap (map spelled_type) (ok_is {E = LogKind} (a.0 ∷ b.0) columns b.2)

@@ -15,7 +15,7 @@ use Rattle.c5_definitions.specs.Lawful.{IsLawfulWrite, IsLawfulTxn, StampsRise}
 use Rattle.c5_definitions.specs.Spelling.{spelled_u32, spelled_u64, write_payload, mark_payload, end_payload, spelled_frame, spelled_txn, spelled_header, spelled_log}
 use Rattle.c5_definitions.specs.Numbers.{number_32}
 use Rattle.c5_definitions.specs.Frames.{Mark, Frame, write, mark, end, frame_at}
-use Rattle.c5_definitions.specs.Items.{frame_length, frame_payload, nothing_more, SoFar, is_above, last_of, expecting, after_write, after_mark, after_end, after_frame, after_item}
+use Rattle.c5_definitions.specs.Items.{frame_length, frame_payload, nothing_more, LogSoFar, is_above, last_of, expecting, after_write, after_mark, after_end, after_frame, after_item}
 use Rattle.c5_frames.proofs.LawFields.{IsBytes, passed, held, both, ok_is, bind_ok, u32-takes}
 use Rattle.c5_frames.proofs.LawPayloads.{IsMark, Holds, frame_holds}
 use Rattle.c5_frames.proofs.LawNames.{AllByRecursion-push}
@@ -24,7 +24,7 @@ use Rattle.c5_frames.proofs.LawStages.{frames_text, IsHead, AreFrames, IsNext, n
 
 -- ---- the length
 
-pub frame_length_next : (s next : SoFar) (item : List ℕ) → IsBytes item → length item ≡ 4 → IsHead s.tables → AreFrames s → after_item frame_length s item ≡ Ok next → IsNext (frames_text s) item next
+pub frame_length_next : (s next : LogSoFar) (item : List ℕ) → IsBytes item → length item ≡ 4 → IsHead s.tables → AreFrames s → after_item frame_length s item ≡ Ok next → IsNext (frames_text s) item next
 unfolding after_item
 frame_length_next s next item fits len head are e =
     let n = number_32 item in
@@ -64,11 +64,11 @@ framed : (front item : List ℕ) (size : ℕ) → length item ≡ size → (fron
 unfolding spelled_frame
 framed front item size len = append_assoc front (spelled_u32 size) item ∙ ap (λ (n : ℕ). front ++ (spelled_u32 n ++ item)) (sym len)
 
-write_next : (s next : SoFar) (size : ℕ) (item : List ℕ) (entry : Write) → length item ≡ size → IsHead s.tables → AreFrames s → (item ≡ write_payload entry) × IsLawfulWrite s.tables entry → after_write s entry ≡ Ok next
+write_next : (s next : LogSoFar) (size : ℕ) (item : List ℕ) (entry : Write) → length item ≡ size → IsHead s.tables → AreFrames s → (item ≡ write_payload entry) × IsLawfulWrite s.tables entry → after_write s entry ≡ Ok next
     → IsNext (frames_text s ++ spelled_u32 size) item next
 unfolding after_write
 write_next s next size item entry len head are holds e =
-    let made : SoFar = record { tables = s.tables; txns = s.txns; writes = s.writes ++ entry ∷ []; stamp = s.stamp; next = frame_length } in
+    let made : LogSoFar = record { tables = s.tables; txns = s.txns; writes = s.writes ++ entry ∷ []; stamp = s.stamp; next = frame_length } in
     let a = held (is_above entry.name (last_of s.writes)) kinds.Order (Ok made) next e in
     let front = spelled_header s.tables in
     let txns = flat_map spelled_txn s.txns in
@@ -93,11 +93,11 @@ write_next s next size item entry len head are holds e =
       text = sym text;
     })
 
-mark_next : (s next : SoFar) (size : ℕ) (item : List ℕ) (numbers : Mark) → length item ≡ size → IsHead s.tables → AreFrames s → IsMark item numbers → after_mark s numbers ≡ Ok next → IsNext (frames_text s ++ spelled_u32 size) item next
+mark_next : (s next : LogSoFar) (size : ℕ) (item : List ℕ) (numbers : Mark) → length item ≡ size → IsHead s.tables → AreFrames s → IsMark item numbers → after_mark s numbers ≡ Ok next → IsNext (frames_text s ++ spelled_u32 size) item next
 unfolding after_mark mark_payload spelled_txn
 mark_next s next size item numbers len head are holds e =
     let txn : Txn = record { script = numbers.script; stamp = numbers.stamp; writes = s.writes } in
-    let made : SoFar = record { tables = s.tables; txns = s.txns ++ txn ∷ []; writes = []; stamp = numbers.stamp; next = frame_length } in
+    let made : LogSoFar = record { tables = s.tables; txns = s.txns ++ txn ∷ []; writes = []; stamp = numbers.stamp; next = frame_length } in
     let a = held (ltb s.stamp numbers.stamp) kinds.Stamp (cond (eqb (length s.writes) numbers.count) (Ok made) (Err kinds.Count)) next e in
     let b = held (eqb (length s.writes) numbers.count) kinds.Count (Ok made) next a.1 in
     let count : length s.writes ≡ numbers.count = eqb-true _ _ b.0 in
@@ -130,7 +130,7 @@ mark_next s next size item numbers len head are holds e =
       text = sym text;
     })
 
-end_next : (s next : SoFar) (size : ℕ) (item : List ℕ) (count : ℕ) → length item ≡ size → IsHead s.tables → AreFrames s → (item ≡ end_payload count) × (count < 2 ^ 32) → after_end s count ≡ Ok next → IsNext (frames_text s ++ spelled_u32 size) item next
+end_next : (s next : LogSoFar) (size : ℕ) (item : List ℕ) (count : ℕ) → length item ≡ size → IsHead s.tables → AreFrames s → (item ≡ end_payload count) × (count < 2 ^ 32) → after_end s count ≡ Ok next → IsNext (frames_text s ++ spelled_u32 size) item next
 unfolding after_end spelled_log
 end_next s next size item count len head are holds e =
     let made = expecting s nothing_more in
@@ -150,7 +150,7 @@ end_next s next size item count len head are holds e =
     subst (IsNext (frames_text s ++ spelled_u32 size) item) (ok_is {E = LogKind} made next a.1) (record {
       head = head;
       stage = record {
-        schema = record { some = are.some; at_most_sixteen = are.few; names = head.names };
+        schema = record { some = are.some; few = are.few; names = head.names };
         each_table = head.each;
         each_txn = are.each_txn;
         stamps = are.stamps;
@@ -159,13 +159,13 @@ end_next s next size item count len head are holds e =
       text = sym text;
     })
 
-frame_next : (s next : SoFar) (size : ℕ) (item : List ℕ) (frame : Frame) → length item ≡ size → IsHead s.tables → AreFrames s → Holds s.tables item frame → after_frame s frame ≡ Ok next → IsNext (frames_text s ++ spelled_u32 size) item next
+frame_next : (s next : LogSoFar) (size : ℕ) (item : List ℕ) (frame : Frame) → length item ≡ size → IsHead s.tables → AreFrames s → Holds s.tables item frame → after_frame s frame ≡ Ok next → IsNext (frames_text s ++ spelled_u32 size) item next
 unfolding after_frame
 frame_next s next size item (write entry) len head are holds e = write_next s next size item entry len head are holds e
 frame_next s next size item (mark numbers) len head are holds e = mark_next s next size item numbers len head are holds e
 frame_next s next size item (end count) len head are holds e = end_next s next size item count len head are holds e
 
-pub frame_payload_next : (size : ℕ) (s next : SoFar) (item : List ℕ) → IsBytes item → length item ≡ size → IsHead s.tables → AreFrames s → after_item (frame_payload size) s item ≡ Ok next → IsNext (frames_text s ++ spelled_u32 size) item next
+pub frame_payload_next : (size : ℕ) (s next : LogSoFar) (item : List ℕ) → IsBytes item → length item ≡ size → IsHead s.tables → AreFrames s → after_item (frame_payload size) s item ≡ Ok next → IsNext (frames_text s ++ spelled_u32 size) item next
 unfolding after_item
 frame_payload_next size s next item fits len head are e =
     let frame = bind_ok (frame_at s.tables item) (λ frame. after_frame s frame) next e in

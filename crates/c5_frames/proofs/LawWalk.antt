@@ -4,14 +4,14 @@ use Rattle.std.specs.List.{flat_map, AllByRecursion}
 use Rattle.std.proofs.lemmas.Bool.{le-ltb, ne_eqb}
 use Rattle.std.proofs.lemmas.List.{append-nil, length-map}
 use Rattle.c5_rows.specs.Bytes.{IsTableName, is_name_byte}
-use Rattle.c5_rows.specs.Tables.{table_of, IsSchema}
+use Rattle.c5_rows.specs.Tables.{table_number, IsSchema}
 use Rattle.c5_rows.specs.declared.cells.CellType.{CellType}
 use Rattle.c5_rows.specs.declared.cells.CellType.TheVariants as types
 use Rattle.c5_rows.specs.declared.tables.TableDef.{TableDef}
 use Rattle.c5_definitions.specs.Lawful.{IsLawfulTable}
 use Rattle.c5_definitions.specs.Spelling.{magic, spelled_type, spelled_table, spelled_header}
 use Rattle.c5_definitions.specs.Steps.{◌>>=◌}
-use Rattle.c5_definitions.specs.Items.{Item, the_magic, table_count, name_length, table_name, column_count, column_types, frame_length, size_of, SoFar, number_in, name_in, type_in, types_in, with_table, after_item, Reading, after_whole, after_bytes}
+use Rattle.c5_definitions.specs.Items.{Item, the_magic, table_count, name_length, table_name, column_count, column_types, frame_length, size_of, LogSoFar, header_count, new_table_name, type_of_byte, types_of_bytes, with_table, after_item, Reading, after_whole, after_bytes}
 use Rattle.c5_frames.proofs.LawBytes.{after_bytes-append, after_bytes-whole}
 use Rattle.c5_frames.proofs.LawAgain.{checked-again}
 use Rattle.c5_frames.proofs.LawNames.{FreeOf, free, apart-nothing}
@@ -19,18 +19,18 @@ use Rattle.c5_frames.proofs.LawNames.{FreeOf, free, apart-nothing}
 -- ---- items
 
 -- before an item, none of whose bytes have come
-abbrev pub at_item : SoFar → ℕ → Reading
+abbrev pub at_item : LogSoFar → ℕ → Reading
 at_item s offset = record { so_far = s; offset = offset; come = [] }
 
 -- wherever the item begins, reading the bytes leads there
-abbrev pub Reads : SoFar → List ℕ → SoFar → Type 0
+abbrev pub Reads : LogSoFar → List ℕ → LogSoFar → Type 0
 Reads s bytes last = (offset : ℕ) → (stop : ℕ) × (after_bytes (at_item s offset) bytes ≡ Ok (at_item last stop))
 
-pub reads-nothing : (s : SoFar) → Reads s [] s
+pub reads-nothing : (s : LogSoFar) → Reads s [] s
 unfolding after_bytes
 reads-nothing s offset = (offset, refl)
 
-pub reads-item : (s next last : SoFar) (item rest : List ℕ) → 0 < length item → length item ≡ size_of s.next → after_item s.next s item ≡ Ok next → Reads next rest last → Reads s (item ++ rest) last
+pub reads-item : (s next last : LogSoFar) (item rest : List ℕ) → 0 < length item → length item ≡ size_of s.next → after_item s.next s item ≡ Ok next → Reads next rest last → Reads s (item ++ rest) last
 unfolding after_whole
 reads-item s next last item rest some sized e more offset =
     let r = at_item s offset in
@@ -44,31 +44,31 @@ reads-item s next last item rest some sized e more offset =
 
 -- ---- the tests of the header
 
-number-again : (low high n : ℕ) → low ≤ n → n ≤ high → number_in low high (n ∷ []) ≡ Ok n
-unfolding number_in
+number-again : (low high n : ℕ) → low ≤ n → n ≤ high → header_count low high (n ∷ []) ≡ Ok n
+unfolding header_count
 number-again low high n le ge = rw (le-ltb _ _ le, le-ltb _ _ ge) refl
 
-name-again : (earlier : List TableDef) (name : List ℕ) → IsTableName name → table_of name earlier ≡ None → name_in earlier name ≡ Ok name
-unfolding name_in
+name-again : (earlier : List TableDef) (name : List ℕ) → IsTableName name → table_number name earlier ≡ None → new_table_name earlier name ≡ Ok name
+unfolding new_table_name
 name-again earlier name are new = rw (checked-again 1 16 is_name_byte name are, new) refl
 
-type-again : (type : CellType) → type_in (spelled_type type) ≡ Ok type
-unfolding type_in
+type-again : (type : CellType) → type_of_byte (spelled_type type) ≡ Ok type
+unfolding type_of_byte
 type-again types.Int = refl
 type-again types.Text = refl
 
-types-again : (columns : List CellType) → types_in (map spelled_type columns) ≡ Ok columns
-unfolding types_in
+types-again : (columns : List CellType) → types_of_bytes (map spelled_type columns) ≡ Ok columns
+unfolding types_of_bytes
 types-again [] = refl
 types-again (type ∷ columns) = rw (type-again type, types-again columns) refl
 
 -- ---- tables
 
 -- in the header no transaction has been read
-abbrev pub in_header : List TableDef → Item → SoFar
+abbrev pub in_header : List TableDef → Item → LogSoFar
 in_header tables item = record { tables = tables; txns = []; writes = []; stamp = 0; next = item }
 
-table-read : (earlier : List TableDef) (missing : ℕ) (table : TableDef) (rest : List ℕ) (last : SoFar) → IsLawfulTable table → table_of table.name earlier ≡ None
+table-read : (earlier : List TableDef) (missing : ℕ) (table : TableDef) (rest : List ℕ) (last : LogSoFar) → IsLawfulTable table → table_number table.name earlier ≡ None
     → Reads (with_table (in_header earlier (name_length missing)) missing table) rest last → Reads (in_header earlier (name_length missing)) (spelled_table table ++ rest) last
 unfolding after_item
 table-read earlier missing table rest last lawful new more =
@@ -84,13 +84,13 @@ table-read earlier missing table rest last lawful new more =
     let long = lawful.name.no_shorter in
     let len = length-map columns spelled_type in
     let r4 : Reads s4 (text ++ rest) last = reads-item s4 s5 last text rest (omega (arith, len, some)) len (rw (types-again columns) refl) more in
-    let r3 : Reads s3 ((length columns ∷ []) ++ (text ++ rest)) last = reads-item s3 s4 last (length columns ∷ []) (text ++ rest) (omega arith) refl (rw (number-again 1 8 (length columns) some lawful.at_most_eight) refl) r4 in
+    let r3 : Reads s3 ((length columns ∷ []) ++ (text ++ rest)) last = reads-item s3 s4 last (length columns ∷ []) (text ++ rest) (omega arith) refl (rw (number-again 1 8 (length columns) some lawful.few) refl) r4 in
     let r2 : Reads s2 (name ++ ((length columns ∷ []) ++ (text ++ rest))) last = reads-item s2 s3 last name ((length columns ∷ []) ++ (text ++ rest)) (omega (arith, long)) refl (rw (name-again earlier name lawful.name new) refl) r3 in
     let r1 : Reads s1 ((length name ∷ []) ++ (name ++ ((length columns ∷ []) ++ (text ++ rest)))) last = reads-item s1 s2 last (length name ∷ []) (name ++ ((length columns ∷ []) ++ (text ++ rest))) (omega arith) refl (rw (number-again 1 16 (length name) long lawful.name.no_longer) refl) r2 in
     let parts : spelled_table table ++ rest ≡ length name ∷ (name ++ ((length columns ∷ text) ++ rest)) = append_assoc (length name ∷ name) (length columns ∷ text) rest in
     subst (λ (t : List ℕ). Reads s1 t last) (sym parts) r1
 
-tables-read : (earlier : List TableDef) (table : TableDef) (tables : List TableDef) (rest : List ℕ) (last : SoFar) → AllByRecursion IsLawfulTable (table ∷ tables) → FreeOf earlier (table ∷ tables)
+tables-read : (earlier : List TableDef) (table : TableDef) (tables : List TableDef) (rest : List ℕ) (last : LogSoFar) → AllByRecursion IsLawfulTable (table ∷ tables) → FreeOf earlier (table ∷ tables)
     → Reads (in_header (earlier ++ table ∷ tables) frame_length) rest last → Reads (in_header earlier (name_length (length (table ∷ tables)))) (flat_map spelled_table (table ∷ tables) ++ rest) last
 tables-read earlier table [] rest last each new more =
     let text : flat_map spelled_table (table ∷ []) ≡ spelled_table table = append-nil (spelled_table table) in
@@ -108,12 +108,12 @@ tables-read earlier table (second ∷ tables) rest last each new more =
 
 -- ---- the header
 
-tables-some : (tables : List TableDef) (rest : List ℕ) (last : SoFar) → 1 ≤ length tables → AllByRecursion IsLawfulTable tables → FreeOf [] tables
+tables-some : (tables : List TableDef) (rest : List ℕ) (last : LogSoFar) → 1 ≤ length tables → AllByRecursion IsLawfulTable tables → FreeOf [] tables
     → Reads (in_header tables frame_length) rest last → Reads (in_header [] (name_length (length tables))) (flat_map spelled_table tables ++ rest) last
 tables-some [] rest last some each new more = absurd (omega (arith, some))
 tables-some (table ∷ tables) rest last some each new more = tables-read [] table tables rest last each new more
 
-pub header-read : (tables : List TableDef) (rest : List ℕ) (last : SoFar) → IsSchema tables → AllByRecursion IsLawfulTable tables → Reads (in_header tables frame_length) rest last → Reads (in_header [] the_magic) (spelled_header tables ++ rest) last
+pub header-read : (tables : List TableDef) (rest : List ℕ) (last : LogSoFar) → IsSchema tables → AllByRecursion IsLawfulTable tables → Reads (in_header tables frame_length) rest last → Reads (in_header [] the_magic) (spelled_header tables ++ rest) last
 unfolding spelled_header after_item
 header-read tables rest last schema each more =
     let n = length tables in
@@ -122,7 +122,7 @@ header-read tables rest last schema each more =
     let s2 = in_header [] table_count in
     let s3 = in_header [] (name_length n) in
     let r3 : Reads s3 (text ++ rest) last = tables-some tables rest last schema.some each (free [] tables schema.names (apart-nothing tables)) more in
-    let r2 : Reads s2 ((n ∷ []) ++ (text ++ rest)) last = reads-item s2 s3 last (n ∷ []) (text ++ rest) (omega arith) refl (rw (number-again 1 16 n schema.some schema.at_most_sixteen) refl) r3 in
+    let r2 : Reads s2 ((n ∷ []) ++ (text ++ rest)) last = reads-item s2 s3 last (n ∷ []) (text ++ rest) (omega arith) refl (rw (number-again 1 16 n schema.some schema.few) refl) r3 in
     let r1 : Reads s1 (magic ++ ((n ∷ []) ++ (text ++ rest))) last = reads-item s1 s2 last magic ((n ∷ []) ++ (text ++ rest)) (omega arith) refl refl r2 in
     let parts : (magic ++ n ∷ text) ++ rest ≡ magic ++ ((n ∷ text) ++ rest) = append_assoc magic (n ∷ text) rest in
     subst (λ (t : List ℕ). Reads s1 t last) (sym parts) r1

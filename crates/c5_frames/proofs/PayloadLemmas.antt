@@ -11,7 +11,7 @@ use Rattle.c5_definitions.specs.declared.fault.LogKind.{LogKind}
 use Rattle.c5_definitions.specs.declared.fault.LogKind.TheVariants as kinds
 use Rattle.c5_definitions.specs.Steps.{◌>>=◌}
 use Rattle.c5_definitions.specs.Frames.{Mark, Frame, write, mark, end, cell_at, cells_at, row_at, frame_at}
-use Rattle.c5_frames.specs.Payloads.{behind, Shown, named, marked, ended, shown, shown_at}
+use Rattle.c5_frames.specs.Payloads.{unread, Shown, named, marked, ended, shown, shown_at}
 
 -- ---- steps
 
@@ -33,13 +33,13 @@ fault_is : {A : Type 0} (x y : LogKind) → failed {A = A} x ≡ failed {A = A} 
 fault_is x y e = cc
 
 -- what was read before the rest
-pub behind-ok : {A : Type 0} (r : Result (A × List ℕ) LogKind) (rest : List ℕ) → behind r ≡ Ok rest → (x : A) × (r ≡ Ok (x, rest))
-behind-ok {A} (Ok x) rest e = (x.0, ap (λ (b : List ℕ). Ok (x.0, b)) (ok_is x.1 rest e))
-behind-ok (Err fault) rest e = absurd cc
+pub unread-ok : {A : Type 0} (r : Result (A × List ℕ) LogKind) (rest : List ℕ) → unread r ≡ Ok rest → (x : A) × (r ≡ Ok (x, rest))
+unread-ok {A} (Ok x) rest e = (x.0, ap (λ (b : List ℕ). Ok (x.0, b)) (ok_is x.1 rest e))
+unread-ok (Err fault) rest e = absurd cc
 
-pub behind-err : {A : Type 0} (r : Result (A × List ℕ) LogKind) (fault : LogKind) → behind r ≡ Err fault → r ≡ Err fault
-behind-err (Ok x) fault e = absurd cc
-behind-err (Err other) fault e = ap (λ (k : LogKind). Err k) (fault_is {A = List ℕ} other fault e)
+pub unread-err : {A : Type 0} (r : Result (A × List ℕ) LogKind) (fault : LogKind) → unread r ≡ Err fault → r ≡ Err fault
+unread-err (Ok x) fault e = absurd cc
+unread-err (Err other) fault e = ap (λ (k : LogKind). Err k) (fault_is {A = List ℕ} other fault e)
 
 -- ---- cells
 
@@ -48,40 +48,40 @@ rest-of xs i d lt =
     let e : suc i ≡ i + 1 = omega arith in
     drop-cons xs i d lt ∙ ap (λ (n : ℕ). get_or xs i d ∷ drop n xs) e
 
-behind-joined : (cell : Cell) (cells : Result (List Cell × List ℕ) LogKind) → behind (cells >>= λ x. Ok (cell ∷ x.0, x.1)) ≡ behind cells
-behind-joined cell (Ok x) = refl
-behind-joined cell (Err fault) = refl
+unread-joined : (cell : Cell) (cells : Result (List Cell × List ℕ) LogKind) → unread (cells >>= λ x. Ok (cell ∷ x.0, x.1)) ≡ unread cells
+unread-joined cell (Ok x) = refl
+unread-joined cell (Err fault) = refl
 
-behind-first : (cell : Result (Cell × List ℕ) LogKind) (columns : List CellType)
-    → behind (cell >>= λ c. cells_at columns c.1 >>= λ x. Ok (c.0 ∷ x.0, x.1)) ≡ (behind cell >>= λ after. behind (cells_at columns after))
-behind-first (Ok c) columns = behind-joined c.0 (cells_at columns c.1)
-behind-first (Err fault) columns = refl
+unread-first : (cell : Result (Cell × List ℕ) LogKind) (columns : List CellType)
+    → unread (cell >>= λ c. cells_at columns c.1 >>= λ x. Ok (c.0 ∷ x.0, x.1)) ≡ (unread cell >>= λ after. unread (cells_at columns after))
+unread-first (Ok c) columns = unread-joined c.0 (cells_at columns c.1)
+unread-first (Err fault) columns = refl
 
 cells-step : (columns : List CellType) (i : ℕ) (d : CellType) (bytes : List ℕ) (read : Result (List ℕ) LogKind)
-    → i < length columns → behind (cell_at (get_or columns i d) bytes) ≡ read
-    → behind (cells_at (drop i columns) bytes) ≡ (read >>= λ after. behind (cells_at (drop (i + 1) columns) after))
+    → i < length columns → unread (cell_at (get_or columns i d) bytes) ≡ read
+    → unread (cells_at (drop i columns) bytes) ≡ (read >>= λ after. unread (cells_at (drop (i + 1) columns) after))
 unfolding cells_at
 cells-step columns i d bytes read lt is =
-    ap (λ (cs : List CellType). behind (cells_at cs bytes)) (rest-of columns i d lt)
-    ∙ behind-first (cell_at (get_or columns i d) bytes) (drop (i + 1) columns)
-    ∙ ap (λ (r : Result (List ℕ) LogKind). r >>= λ after. behind (cells_at (drop (i + 1) columns) after)) is
+    ap (λ (cs : List CellType). unread (cells_at cs bytes)) (rest-of columns i d lt)
+    ∙ unread-first (cell_at (get_or columns i d) bytes) (drop (i + 1) columns)
+    ∙ ap (λ (r : Result (List ℕ) LogKind). r >>= λ after. unread (cells_at (drop (i + 1) columns) after)) is
 
 -- behind one cell more the same is left to read
 pub cells-more : (columns : List CellType) (i : ℕ) (d : CellType) (bytes after : List ℕ) (total : Result (List ℕ) LogKind)
-    → i < length columns → behind (cell_at (get_or columns i d) bytes) ≡ Ok after
-    → behind (cells_at (drop i columns) bytes) ≡ total → behind (cells_at (drop (i + 1) columns) after) ≡ total
+    → i < length columns → unread (cell_at (get_or columns i d) bytes) ≡ Ok after
+    → unread (cells_at (drop i columns) bytes) ≡ total → unread (cells_at (drop (i + 1) columns) after) ≡ total
 cells-more columns i d bytes after total lt is so_far = sym (cells-step columns i d bytes (Ok after) lt is) ∙ so_far
 
 pub cells-fail : (columns : List CellType) (i : ℕ) (d : CellType) (bytes : List ℕ) (fault : LogKind) (total : Result (List ℕ) LogKind)
-    → i < length columns → behind (cell_at (get_or columns i d) bytes) ≡ Err fault
-    → behind (cells_at (drop i columns) bytes) ≡ total → total ≡ Err fault
+    → i < length columns → unread (cell_at (get_or columns i d) bytes) ≡ Err fault
+    → unread (cells_at (drop i columns) bytes) ≡ total → total ≡ Err fault
 cells-fail columns i d bytes fault total lt is so_far = sym so_far ∙ cells-step columns i d bytes (Err fault) lt is
 
 pub cells-all : (columns : List CellType) (i : ℕ) (bytes : List ℕ) (total : Result (List ℕ) LogKind)
-    → length columns ≤ i → behind (cells_at (drop i columns) bytes) ≡ total → total ≡ Ok bytes
+    → length columns ≤ i → unread (cells_at (drop i columns) bytes) ≡ total → total ≡ Ok bytes
 unfolding cells_at
 cells-all columns i bytes total le so_far =
-    sym so_far ∙ ap (λ (cs : List CellType). behind (cells_at cs bytes)) (drop_all i columns le)
+    sym so_far ∙ ap (λ (cs : List CellType). unread (cells_at cs bytes)) (drop_all i columns le)
 
 -- ---- rows
 
@@ -89,22 +89,22 @@ row-of : (columns : List CellType) (bytes : List ℕ) (x : List Cell × List ℕ
 unfolding row_at
 row-of columns bytes x e = rw e refl
 
-pub row-fails : (columns : List CellType) (bytes : List ℕ) (fault : LogKind) → behind (cells_at columns bytes) ≡ Err fault → row_at columns bytes ≡ Err fault
+pub row-fails : (columns : List CellType) (bytes : List ℕ) (fault : LogKind) → unread (cells_at columns bytes) ≡ Err fault → row_at columns bytes ≡ Err fault
 unfolding row_at
 row-fails columns bytes fault e =
-    let fail : cells_at columns bytes ≡ Err fault = behind-err (cells_at columns bytes) fault e in
+    let fail : cells_at columns bytes ≡ Err fault = unread-err (cells_at columns bytes) fault e in
     rw fail refl
 
-pub row-whole : (columns : List CellType) (bytes rest : List ℕ) → behind (cells_at columns bytes) ≡ Ok rest → length rest < 1 → (row : List Cell) × (row_at columns bytes ≡ Ok row)
+pub row-whole : (columns : List CellType) (bytes rest : List ℕ) → unread (cells_at columns bytes) ≡ Ok rest → length rest < 1 → (row : List Cell) × (row_at columns bytes ≡ Ok row)
 row-whole columns bytes [] e none =
-    let x = behind-ok (cells_at columns bytes) [] e in
+    let x = unread-ok (cells_at columns bytes) [] e in
     (x.0, row-of columns bytes (x.0, []) x.1)
 row-whole columns bytes (byte ∷ rest) e none = absurd (omega arith)
 
-pub row-left : (columns : List CellType) (bytes rest : List ℕ) → behind (cells_at columns bytes) ≡ Ok rest → 0 < length rest → row_at columns bytes ≡ Err kinds.Cell
+pub row-left : (columns : List CellType) (bytes rest : List ℕ) → unread (cells_at columns bytes) ≡ Ok rest → 0 < length rest → row_at columns bytes ≡ Err kinds.Cell
 row-left columns bytes [] e some = absurd (omega arith)
 row-left columns bytes (byte ∷ rest) e some =
-    let x = behind-ok (cells_at columns bytes) (byte ∷ rest) e in
+    let x = unread-ok (cells_at columns bytes) (byte ∷ rest) e in
     let more : eqb (length (byte ∷ rest)) 0 ≡ false = ne_eqb _ _ (λ (z : length (byte ∷ rest) ≡ 0). absurd (omega arith)) in
     row-of columns bytes (x.0, byte ∷ rest) x.1 ∙ ap (λ (b : Bool). cond b (Ok x.0) (Err kinds.Cell)) more
 

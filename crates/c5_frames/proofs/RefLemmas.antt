@@ -22,8 +22,8 @@ use Rattle.c5_definitions.specs.declared.fault.LogKind.TheVariants as kinds
 use Rattle.c5_definitions.specs.Steps.{◌>>=◌, or_cause}
 use Rattle.c5_definitions.specs.Frames.{Mark, Frame, write, mark, end, key_at, int_at, text_at, cell_at, cells_at, row_at, change_at, table_numbered, write_at, mark_at, end_at, frame_at}
 use Rattle.c5_definitions.specs.Numbers.{signed_64}
-use Rattle.c5_frames.specs.Payloads.{behind}
-use Rattle.c5_frames.specs.Refs.{cells_of, HoldRow, change_of, HoldWrite, row_of, put_of, text_of}
+use Rattle.c5_frames.specs.Payloads.{unread}
+use Rattle.c5_frames.specs.Refs.{cells_held, HoldRow, change_held, HoldWrite, row_of_change, put_cells_of, text_bytes_of}
 use Rattle.c5_frames.proofs.PayloadLemmas.{bind_ok, ok_is, rest-of}
 
 -- ---- tests that let something through
@@ -135,11 +135,11 @@ cells-length (column ∷ columns) bytes x e =
     omega (arith, same, more)
 
 -- a row has a cell for each column
-pub row-length : (columns : List CellType) (bytes : List ℕ) → HoldRow columns bytes → length (cells_of columns bytes) ≡ length columns
-row-length columns bytes h = cells-length columns bytes (cells_of columns bytes, []) (row-cells columns bytes (cells_of columns bytes) h)
+pub row-length : (columns : List CellType) (bytes : List ℕ) → HoldRow columns bytes → length (cells_held columns bytes) ≡ length columns
+row-length columns bytes h = cells-length columns bytes (cells_held columns bytes, []) (row-cells columns bytes (cells_held columns bytes) h)
 
-pub row-start : (columns : List CellType) (bytes : List ℕ) → HoldRow columns bytes → cells_at (drop 0 columns) bytes ≡ Ok (drop 0 (cells_of columns bytes), [])
-row-start columns bytes h = row-cells columns bytes (cells_of columns bytes) h
+pub row-start : (columns : List CellType) (bytes : List ℕ) → HoldRow columns bytes → cells_at (drop 0 columns) bytes ≡ Ok (drop 0 (cells_held columns bytes), [])
+row-start columns bytes h = row-cells columns bytes (cells_held columns bytes) h
 
 -- the cell of a column, and the bytes of those behind it
 pub record IsNext (columns : List CellType) (i : ℕ) (column : CellType) (bytes : List ℕ) (cells : List Cell) : Type 0 where
@@ -161,13 +161,13 @@ next-cell columns i d bytes cells lt e =
     let same : made ≡ (drop i cells, []) = ok_is made (drop i cells, []) b.2 in
     let front : a.0.0 ∷ b.0.0 ≡ drop i cells = ap (λ (x : List Cell × List ℕ). x.0) same in
     let none : b.0.1 ≡ [] = ap (λ (x : List Cell × List ℕ). x.1) same in
-    let behind : b.0.0 ≡ drop (i + 1) cells = ap (drop 1) front ∙ drop-drop 1 i cells in
+    let unread : b.0.0 ≡ drop (i + 1) cells = ap (drop 1) front ∙ drop-drop 1 i cells in
     record {
       cell = a.0.0;
       after = a.0.1;
       read = a.1;
-      here = sym front ∙ ap (λ (cs : List Cell). a.0.0 ∷ cs) behind;
-      more = b.1 ∙ ap (λ (cs : List Cell). Ok (cs, b.0.1)) behind ∙ ap (λ (rest : List ℕ). Ok (drop (i + 1) cells, rest)) none;
+      here = sym front ∙ ap (λ (cs : List Cell). a.0.0 ∷ cs) unread;
+      more = b.1 ∙ ap (λ (cs : List Cell). Ok (cs, b.0.1)) unread ∙ ap (λ (rest : List ℕ). Ok (drop (i + 1) cells, rest)) none;
     }
 
 -- the same, seen by a function that gives the cell and the bytes behind it
@@ -199,25 +199,25 @@ take-next {A} xs i x rest e =
 
 -- behind the next cell are the others
 pub next-behind : (columns : List CellType) (i : ℕ) (d : CellType) (bytes after : List ℕ) (cells : List Cell)
-    → i < length columns → cells_at (drop i columns) bytes ≡ Ok (drop i cells, []) → behind (cell_at (get_or columns i d) bytes) ≡ Ok after
+    → i < length columns → cells_at (drop i columns) bytes ≡ Ok (drop i cells, []) → unread (cell_at (get_or columns i d) bytes) ≡ Ok after
     → cells_at (drop (i + 1) columns) after ≡ Ok (drop (i + 1) cells, [])
 next-behind columns i d bytes after cells lt e is =
     let n = next-cell columns i d bytes cells lt e in
-    let same : n.after ≡ after = ok_is n.after after (sym (ap (λ (r : Result (Cell × List ℕ) LogKind). behind r) n.read) ∙ is) in
+    let same : n.after ≡ after = ok_is n.after after (sym (ap (λ (r : Result (Cell × List ℕ) LogKind). unread r) n.read) ∙ is) in
     ap (λ (rest : List ℕ). cells_at (drop (i + 1) columns) rest) (sym same) ∙ n.more
 
-int-read : (bytes : List ℕ) (x : Cell × List ℕ) → int_at bytes ≡ Ok x → text_of x.0 ≡ None
+int-read : (bytes : List ℕ) (x : Cell × List ℕ) → int_at bytes ≡ Ok x → text_bytes_of x.0 ≡ None
 unfolding int_at
 int-read bytes x e =
     let long = passed (ltb (length bytes) 8) kinds.Cell (Ok (Int (signed_64 bytes), drop 8 bytes)) x e in
-    ap (λ (y : Cell × List ℕ). text_of y.0) (sym (ok_is (Int (signed_64 bytes), drop 8 bytes) x long.1))
+    ap (λ (y : Cell × List ℕ). text_bytes_of y.0) (sym (ok_is (Int (signed_64 bytes), drop 8 bytes) x long.1))
 
 -- a cell of numbers is no text
-pub int-no-text : (column : CellType) (bytes after : List ℕ) (cell : Cell) → column ≡ types.Int → cell_at column bytes ≡ Ok (cell, after) → text_of cell ≡ None
+pub int-no-text : (column : CellType) (bytes after : List ℕ) (cell : Cell) → column ≡ types.Int → cell_at column bytes ≡ Ok (cell, after) → text_bytes_of cell ≡ None
 int-no-text column bytes after cell is e = int-read bytes (cell, after) (sym (int-cell column bytes is) ∙ e)
 
 -- a row has as many cells as columns
-pub row-size : (columns types : List CellType) (bytes : List ℕ) (cells : List Cell) → HoldRow columns bytes → types ≡ columns → cells_of columns bytes ≡ cells → length types ≡ length cells
+pub row-size : (columns types : List CellType) (bytes : List ℕ) (cells : List Cell) → HoldRow columns bytes → types ≡ columns → cells_held columns bytes ≡ cells → length types ≡ length cells
 row-size columns types bytes cells h t c = ap length t ∙ sym (row-length columns bytes h) ∙ ap length c
 
 -- the end of a list
@@ -235,28 +235,28 @@ some_bytes bytes = Some bytes
 some_is : (x y : List ℕ) → some_bytes x ≡ some_bytes y → x ≡ y
 some_is x y e = cc
 
-put-cells : (columns : List CellType) (rest : List ℕ) (change : Change) → (row_at columns rest >>= λ row. Ok (Put row)) ≡ Ok change → HoldRow columns rest × (change ≡ Put (cells_of columns rest))
+put-cells : (columns : List CellType) (rest : List ℕ) (change : Change) → (row_at columns rest >>= λ row. Ok (Put row)) ≡ Ok change → HoldRow columns rest × (change ≡ Put (cells_held columns rest))
 put-cells columns rest change e =
     let x = bind_ok (row_at columns rest) (λ row. Ok (Put row)) change e in
     let holds = held-back (row_at columns rest) [] x.0 x.1 in
-    let same : x.0 ≡ cells_of columns rest = ok_is x.0 (cells_of columns rest) (sym x.1 ∙ holds) in
+    let same : x.0 ≡ cells_held columns rest = ok_is x.0 (cells_held columns rest) (sym x.1 ∙ holds) in
     (holds, sym (ok_is (Put x.0) change x.2) ∙ ap (λ (row : List Cell). Put row) same)
 
 -- behind the op byte of a put stand the cells of its row
-pub put-row : (columns : List CellType) (all bytes : List ℕ) (change : Change) → change_at columns all ≡ Ok change → Some bytes ≡ put_of all → HoldRow columns bytes × (Some (cells_of columns bytes) ≡ row_of change)
+pub put-row : (columns : List CellType) (all bytes : List ℕ) (change : Change) → change_at columns all ≡ Ok change → Some bytes ≡ put_cells_of all → HoldRow columns bytes × (Some (cells_held columns bytes) ≡ row_of_change change)
 unfolding change_at
 put-row columns [] bytes change h e = absurd cc
 put-row columns (zero ∷ rest) bytes change h e =
     let p = put-cells columns rest change h in
-    subst (λ (b : List ℕ). HoldRow columns b × (Some (cells_of columns b) ≡ row_of change)) (sym (some_is bytes rest e)) (p.0, ap row_of (sym p.1))
+    subst (λ (b : List ℕ). HoldRow columns b × (Some (cells_held columns b) ≡ row_of_change change)) (sym (some_is bytes rest e)) (p.0, ap row_of_change (sym p.1))
 put-row columns (suc op ∷ rest) bytes change h e = absurd cc
 
 -- any other change is a gone
-pub gone-row : (columns : List CellType) (all : List ℕ) (change : Change) → change_at columns all ≡ Ok change → None ≡ put_of all → None ≡ row_of change
+pub gone-row : (columns : List CellType) (all : List ℕ) (change : Change) → change_at columns all ≡ Ok change → None ≡ put_cells_of all → None ≡ row_of_change change
 unfolding change_at
 gone-row columns [] change h e = absurd cc
 gone-row columns (zero ∷ rest) change h e = absurd cc
-gone-row columns (suc zero ∷ []) change h e = ap row_of (ok_is Gone change h)
+gone-row columns (suc zero ∷ []) change h e = ap row_of_change (ok_is Gone change h)
 gone-row columns (suc zero ∷ byte ∷ rest) change h e = absurd cc
 gone-row columns (suc (suc op) ∷ rest) change h e = absurd cc
 
@@ -378,14 +378,14 @@ written-columns tables payload w p number d same = get_or_from_slice_get tables 
 
 -- the parts hold a write
 pub written-holds : (tables : List TableDef) (payload : List ℕ) (w : Write) (p : IsWritten tables payload w) (key : List ℕ) (columns : List CellType) (bytes : List ℕ)
-    → key ≡ w.name.key → columns ≡ p.definition.columns → bytes ≡ drop (3 + length key) payload → HoldWrite key columns bytes × (change_of columns bytes ≡ w.change)
+    → key ≡ w.name.key → columns ≡ p.definition.columns → bytes ≡ drop (3 + length key) payload → HoldWrite key columns bytes × (change_held columns bytes ≡ w.change)
 written-holds tables payload w p key columns bytes k c b =
     let read : change_at columns bytes ≡ Ok w.change =
     ap (λ (cs : List CellType). change_at cs bytes) c
     ∙ ap (λ (bs : List ℕ). change_at p.definition.columns bs) (b ∙ ap (λ (ks : List ℕ). drop (3 + length ks) payload) k)
     ∙ p.change in
     let holds = held-back (change_at columns bytes) Gone w.change read in
-    (record { is_key = subst IsKey (sym k) p.is_key; is_change = holds }, ok_is (change_of columns bytes) w.change (sym holds ∙ read))
+    (record { is_key = subst IsKey (sym k) p.is_key; is_change = holds }, ok_is (change_held columns bytes) w.change (sym holds ∙ read))
 
 abbrev pub made : ℕ → List ℕ → Change → Write
 made table key change = record { name = record { table = table; key = key }; change = change }

@@ -10,18 +10,18 @@ use Rattle.c5_definitions.specs.declared.fault.LogKind.TheVariants as kinds
 use Rattle.c5_definitions.specs.declared.fault.LogFault.{LogFault}
 use Rattle.c5_definitions.specs.Steps.{◌>>=◌}
 use Rattle.c5_definitions.specs.Frames.{Mark, Frame, write, mark, end, frame_at}
-use Rattle.c5_definitions.specs.Items.{Item, the_magic, table_count, name_length, table_name, column_count, column_types, frame_length, frame_payload, nothing_more, size_of, begin_of, SoFar, Reading, last_of, is_above, expecting, after_write, after_mark, after_end, after_frame, after_item, after_whole, after_bytes, at_start}
+use Rattle.c5_definitions.specs.Items.{Item, the_magic, table_count, name_length, table_name, column_count, column_types, frame_length, frame_payload, nothing_more, size_of, begin_of, LogSoFar, Reading, last_of, is_above, expecting, after_write, after_mark, after_end, after_frame, after_item, after_whole, after_bytes, at_start}
 use Rattle.c5_frames.specs.Payloads.{Shown, named, marked, ended, shown}
 use Rattle.c5_frames.specs.declared.index.Place.{Place}
 use Rattle.c5_frames.specs.declared.index.TxnRef.{TxnRef}
 use Rattle.c5_frames.specs.declared.index.Index.{Index}
 use Rattle.c5_frames.specs.Index.{Found, with_place, with_txn, HasRoom}
-use Rattle.c5_frames.specs.Progress.{State, so_far_of, IsDue, IsFoundBefore, Tracks, Faults, HasWhole}
+use Rattle.c5_frames.specs.DecoderStates.{DecodedState, so_far_of, IsDue, IsFoundBefore, Tracks, Faults, HasWhole}
 use Rattle.c5_frames.proofs.LawBytes.{after_bytes-append, after_bytes-part, after_bytes-whole}
 use Rattle.c5_frames.proofs.Indexing.{open-length, IsIndex-written, IsIndex-marked}
 
 -- before the first byte of an item
-abbrev pub before : SoFar → ℕ → Reading
+abbrev pub before : LogSoFar → ℕ → Reading
 before r at = record { so_far = r; offset = at; come = [] }
 
 -- the bytes of the next item
@@ -32,7 +32,7 @@ pub item-length : (bytes : List ℕ) (at size : ℕ) → at + size ≤ length by
 item-length bytes at size within = length-take-le size (drop at bytes) (omega (arith, length-drop at bytes))
 
 -- a whole item, and then what stands behind it
-item-then : (r : SoFar) (at : ℕ) (bytes : List ℕ) → at + size_of r.next ≤ length bytes → 0 < size_of r.next
+item-then : (r : LogSoFar) (at : ℕ) (bytes : List ℕ) → at + size_of r.next ≤ length bytes → 0 < size_of r.next
     → after_bytes (before r at) (drop at bytes) ≡ (after_whole (before r at) (item_at bytes at (size_of r.next)) >>= λ n. after_bytes n (drop (at + size_of r.next) bytes))
 item-then r at bytes within some =
     let size = size_of r.next in
@@ -43,7 +43,7 @@ item-then r at bytes within some =
     ∙ ap (λ (read : Result Reading LogFault). read >>= λ n. after_bytes n (drop size (drop at bytes))) (after_bytes-whole (before r at) item (omega (arith, len)) (omega (arith, len)))
     ∙ ap (λ (rest : List ℕ). after_whole (before r at) item >>= λ n. after_bytes n rest) (drop-drop size at bytes)
 
-after_whole-ok : (r : Reading) (bytes : List ℕ) (s : SoFar) → after_item r.so_far.next r.so_far bytes ≡ Ok s → after_whole r bytes ≡ Ok (record { so_far = s; offset = r.offset + length bytes; come = [] })
+after_whole-ok : (r : Reading) (bytes : List ℕ) (s : LogSoFar) → after_item r.so_far.next r.so_far bytes ≡ Ok s → after_whole r bytes ≡ Ok (record { so_far = s; offset = r.offset + length bytes; come = [] })
 unfolding after_whole
 after_whole-ok r bytes s e = rw (e, after_whole) refl
 
@@ -51,7 +51,7 @@ after_whole-fault : (r : Reading) (bytes : List ℕ) (kind : LogKind) → after_
 unfolding after_whole
 after_whole-fault r bytes kind e = rw (e, after_whole) refl
 
-pub item-ok : (r : SoFar) (at : ℕ) (bytes : List ℕ) (s : SoFar) → at + size_of r.next ≤ length bytes → 0 < size_of r.next
+pub item-ok : (r : LogSoFar) (at : ℕ) (bytes : List ℕ) (s : LogSoFar) → at + size_of r.next ≤ length bytes → 0 < size_of r.next
     → after_item r.next r (item_at bytes at (size_of r.next)) ≡ Ok s
     → after_bytes (before r at) (drop at bytes) ≡ after_bytes (before s (at + size_of r.next)) (drop (at + size_of r.next) bytes)
 item-ok r at bytes s within some ok =
@@ -60,7 +60,7 @@ item-ok r at bytes s within some ok =
     ∙ ap (λ (read : Result Reading LogFault). read >>= λ n. after_bytes n (drop (at + size) bytes)) (after_whole-ok (before r at) (item_at bytes at size) s ok)
     ∙ ap (λ (n : ℕ). after_bytes (before s (at + n)) (drop (at + size) bytes)) (item-length bytes at size within)
 
-pub item-fault : (r : SoFar) (at : ℕ) (bytes : List ℕ) (kind : LogKind) → at + size_of r.next ≤ length bytes → 0 < size_of r.next
+pub item-fault : (r : LogSoFar) (at : ℕ) (bytes : List ℕ) (kind : LogKind) → at + size_of r.next ≤ length bytes → 0 < size_of r.next
     → after_item r.next r (item_at bytes at (size_of r.next)) ≡ Err kind
     → after_bytes (before r at) (drop at bytes) ≡ Err (record { offset = begin_of r.next at; kind = kind })
 item-fault r at bytes kind within some bad =
@@ -69,7 +69,7 @@ item-fault r at bytes kind within some bad =
     ∙ ap (λ (read : Result Reading LogFault). read >>= λ n. after_bytes n (drop (at + size) bytes)) (after_whole-fault (before r at) (item_at bytes at size) kind bad)
 
 -- less than an item is kept
-pub item-part : (r : SoFar) (at : ℕ) (bytes : List ℕ) → length bytes < at + size_of r.next → at ≤ length bytes
+pub item-part : (r : LogSoFar) (at : ℕ) (bytes : List ℕ) → length bytes < at + size_of r.next → at ≤ length bytes
     → after_bytes (before r at) (drop at bytes) ≡ Ok (record { so_far = r; offset = at; come = drop at bytes })
 item-part r at bytes short within = after_bytes-part (before r at) (drop at bytes) (omega (arith, length-drop at bytes))
 
@@ -88,31 +88,31 @@ IsDue-some (frame_payload size) tables due = omega (arith, due.1)
 IsDue-some nothing_more tables due = omega arith
 
 -- a fault of the next item is that of the bytes
-pub Faults-item : (bytes : List ℕ) (s : State) (t : Tracks bytes s) (kind : LogKind) → HasWhole bytes s
+pub Faults-item : (bytes : List ℕ) (s : DecodedState) (t : Tracks bytes s) (kind : LogKind) → HasWhole bytes s
     → after_item s.next (so_far_of s t.txns t.writes) (item_at bytes s.at (size_of s.next)) ≡ Err kind → Faults bytes s kind
 Faults-item bytes s t kind whole bad = t.reads ∙ item-fault (so_far_of s t.txns t.writes) s.at bytes kind whole (IsDue-some s.next s.tables t.due) bad
 
 -- what reading comes to behind the next item
-pub reads-next : (bytes : List ℕ) (s : State) (t : Tracks bytes s) (next : SoFar) → HasWhole bytes s
+pub reads-next : (bytes : List ℕ) (s : DecodedState) (t : Tracks bytes s) (next : LogSoFar) → HasWhole bytes s
     → after_item s.next (so_far_of s t.txns t.writes) (item_at bytes s.at (size_of s.next)) ≡ Ok next
     → after_bytes at_start bytes ≡ after_bytes (before next (s.at + size_of s.next)) (drop (s.at + size_of s.next) bytes)
 reads-next bytes s t next whole ok = t.reads ∙ item-ok (so_far_of s t.txns t.writes) s.at bytes next whole (IsDue-some s.next s.tables t.due) ok
 
 -- before a payload
-abbrev pub payload_state : List TableDef → ℕ → Found → ℕ → State
+abbrev pub payload_state : List TableDef → ℕ → Found → ℕ → DecodedState
 payload_state tables at found size = record { tables = tables; next = frame_payload size; at = at; found = found }
 
-abbrev pub behind_frame : List TableDef → ℕ → Found → State
+abbrev pub behind_frame : List TableDef → ℕ → Found → DecodedState
 behind_frame tables at found = record { tables = tables; next = frame_length; at = at; found = found }
 
-is_payload : (s : State) (size : ℕ) → s.next ≡ frame_payload size → s ≡ payload_state s.tables s.at s.found size
+is_payload : (s : DecodedState) (size : ℕ) → s.next ≡ frame_payload size → s ≡ payload_state s.tables s.at s.found size
 is_payload s size e = ap (λ (next : Item). record { tables = s.tables; next = next; at = s.at; found = s.found }) e
 
-pub Tracks-payload : (bytes : List ℕ) (s : State) (size : ℕ) → s.next ≡ frame_payload size → Tracks bytes s → Tracks bytes (payload_state s.tables s.at s.found size)
+pub Tracks-payload : (bytes : List ℕ) (s : DecodedState) (size : ℕ) → s.next ≡ frame_payload size → Tracks bytes s → Tracks bytes (payload_state s.tables s.at s.found size)
 Tracks-payload bytes s size e t = subst (Tracks bytes) (is_payload s size e) t
 
-pub Faults-payload : (bytes : List ℕ) (s : State) (size : ℕ) (kind : LogKind) → s.next ≡ frame_payload size → Faults bytes (payload_state s.tables s.at s.found size) kind → Faults bytes s kind
-Faults-payload bytes s size kind e f = subst (λ (x : State). Faults bytes x kind) (sym (is_payload s size e)) f
+pub Faults-payload : (bytes : List ℕ) (s : DecodedState) (size : ℕ) (kind : LogKind) → s.next ≡ frame_payload size → Faults bytes (payload_state s.tables s.at s.found size) kind → Faults bytes s kind
+Faults-payload bytes s size kind e f = subst (λ (x : DecodedState). Faults bytes x kind) (sym (is_payload s size e)) f
 
 -- what is shown of a payload says what it holds
 abbrev show : Result Frame LogKind → Result Shown LogKind
@@ -142,7 +142,7 @@ holds-fault (Err other) kind e = let same : other ≡ kind = cc in ap (λ (k : L
 
 -- ---- payloads
 
-after_payload : (size : ℕ) (s : SoFar) (bytes : List ℕ) (frame : Frame) → frame_at s.tables bytes ≡ Ok frame → after_item (frame_payload size) s bytes ≡ after_frame s frame
+after_payload : (size : ℕ) (s : LogSoFar) (bytes : List ℕ) (frame : Frame) → frame_at s.tables bytes ≡ Ok frame → after_item (frame_payload size) s bytes ≡ after_frame s frame
 unfolding after_item
 after_payload size s bytes frame e = ap (λ (r : Result Frame LogKind). r >>= λ f. after_frame s f) e
 
@@ -154,11 +154,11 @@ payload-fault bytes tables at found size kind t whole bad =
     Faults-item bytes s t kind whole (ap (λ (r : Result Frame LogKind). r >>= λ f. after_frame (so_far_of s t.txns t.writes) f) bad)
 
 -- a write above the last one
-written : (s : SoFar) (w : Write) → is_above w.name (last_of s.writes) ≡ true → after_frame s (write w) ≡ Ok (record { tables = s.tables; txns = s.txns; writes = s.writes ++ w ∷ []; stamp = s.stamp; next = frame_length })
+written : (s : LogSoFar) (w : Write) → is_above w.name (last_of s.writes) ≡ true → after_frame s (write w) ≡ Ok (record { tables = s.tables; txns = s.txns; writes = s.writes ++ w ∷ []; stamp = s.stamp; next = frame_length })
 unfolding after_frame after_write
 written s w above = rw (above, after_write) refl
 
-not_written : (s : SoFar) (w : Write) → is_above w.name (last_of s.writes) ≡ false → after_frame s (write w) ≡ Err kinds.Order
+not_written : (s : LogSoFar) (w : Write) → is_above w.name (last_of s.writes) ≡ false → after_frame s (write w) ≡ Err kinds.Order
 unfolding after_frame after_write
 not_written s w above = rw (above, after_write) refl
 
@@ -191,16 +191,16 @@ Faults-order bytes tables at found size w t whole read above =
     Faults-item bytes s t kinds.Order whole (after_payload size (so_far_of s t.txns t.writes) (item_at bytes at size) (write w) read ∙ not_written (so_far_of s t.txns t.writes) w above)
 
 -- a mark with a higher stamp and the right count
-marks : (s : SoFar) (m : Mark) → s.stamp < m.stamp → length s.writes ≡ m.count
+marks : (s : LogSoFar) (m : Mark) → s.stamp < m.stamp → length s.writes ≡ m.count
     → after_frame s (mark m) ≡ Ok (record { tables = s.tables; txns = s.txns ++ record { script = m.script; stamp = m.stamp; writes = s.writes } ∷ []; writes = []; stamp = m.stamp; next = frame_length })
 unfolding after_frame after_mark
 marks s m higher count = rw (lt-ltb s.stamp m.stamp higher, eq-eqb (length s.writes) m.count count, after_mark) refl
 
-stamp-fault : (s : SoFar) (m : Mark) → m.stamp ≤ s.stamp → after_frame s (mark m) ≡ Err kinds.Stamp
+stamp-fault : (s : LogSoFar) (m : Mark) → m.stamp ≤ s.stamp → after_frame s (mark m) ≡ Err kinds.Stamp
 unfolding after_frame after_mark
 stamp-fault s m lower = rw (le-ltb s.stamp m.stamp lower, after_mark) refl
 
-count-fault : (s : SoFar) (m : Mark) → s.stamp < m.stamp → (length s.writes ≡ m.count → ⊥) → after_frame s (mark m) ≡ Err kinds.Count
+count-fault : (s : LogSoFar) (m : Mark) → s.stamp < m.stamp → (length s.writes ≡ m.count → ⊥) → after_frame s (mark m) ≡ Err kinds.Count
 unfolding after_frame after_mark
 count-fault s m higher count = rw (lt-ltb s.stamp m.stamp higher, ne_eqb (length s.writes) m.count count, after_mark) refl
 
@@ -239,15 +239,15 @@ Faults-count bytes tables at found size m t whole read higher count =
     Faults-item bytes s t kinds.Count whole (after_payload size (so_far_of s t.txns t.writes) (item_at bytes at size) (mark m) read ∙ count-fault (so_far_of s t.txns t.writes) m higher count)
 
 -- the end mark with the right number
-ends : (s : SoFar) (count : ℕ) → length s.writes ≡ 0 → length s.txns ≡ count → after_frame s (end count) ≡ Ok (expecting s nothing_more)
+ends : (s : LogSoFar) (count : ℕ) → length s.writes ≡ 0 → length s.txns ≡ count → after_frame s (end count) ≡ Ok (expecting s nothing_more)
 unfolding after_frame after_end
 ends s count none all = rw (eq-eqb (length s.writes) 0 none, eq-eqb (length s.txns) count all, after_end) refl
 
-end-open : (s : SoFar) (count : ℕ) → (length s.writes ≡ 0 → ⊥) → after_frame s (end count) ≡ Err kinds.End
+end-open : (s : LogSoFar) (count : ℕ) → (length s.writes ≡ 0 → ⊥) → after_frame s (end count) ≡ Err kinds.End
 unfolding after_frame after_end
 end-open s count some = rw (ne_eqb (length s.writes) 0 some, after_end) refl
 
-end-count : (s : SoFar) (count : ℕ) → length s.writes ≡ 0 → (length s.txns ≡ count → ⊥) → after_frame s (end count) ≡ Err kinds.End
+end-count : (s : LogSoFar) (count : ℕ) → length s.writes ≡ 0 → (length s.txns ≡ count → ⊥) → after_frame s (end count) ≡ Err kinds.End
 unfolding after_frame after_end
 end-count s count none other = rw (eq-eqb (length s.writes) 0 none, ne_eqb (length s.txns) count other, after_end) refl
 

@@ -1,7 +1,7 @@
 -- How a decoder holds the bytes that were fed, and what they have come to.
 use Rattle.std.specs.Prelude.{ℕ, List}
 use Rattle.c5_frames.specs.declared.decoder.Decoder.TheInside.{Inside}
-use Rattle.c5_frames.specs.Progress.{Decodes}
+use Rattle.c5_frames.specs.DecoderStates.{Decodes}
 
 abbrev pub bytes_of : Inside → List ℕ
 bytes_of d = d.bytes.items

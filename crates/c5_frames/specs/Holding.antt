@@ -1,5 +1,6 @@
 -- Bytes that are a log, and an index of it.
 use Rattle.std.specs.Prelude.{◌≡◌, ◌≤◌, ◌*◌, ℕ, List, [], length, Ok, Err}
+use Rattle.c5_rows.specs.Sizes.{max_log_bytes}
 use Rattle.c5_rows.specs.declared.tables.TableDef.{TableDef}
 use Rattle.c5_rows.specs.declared.writes.Txn.{Txn}
 use Rattle.c5_definitions.specs.Items.{log_of}
@@ -16,4 +17,4 @@ pub record HoldsLog (bytes : List ℕ) (tables : List TableDef) (index : Index) 
   pub found : IsIndex bytes tables (found_in index) (txns_in bytes) []
   pub few_places : 5 * length index.places.items ≤ length bytes
   pub few_txns : 5 * length index.txns.items ≤ length bytes
-  pub small : length bytes ≤ 88080384
+  pub small : length bytes ≤ max_log_bytes

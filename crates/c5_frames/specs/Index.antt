@@ -39,13 +39,13 @@ abbrev pub writes_of : List Txn → List Write
 writes_of txns = flat_map (λ (txn : Txn). txn.writes) txns
 
 -- what is said of a transaction whose first write has this number
-abbrev pub entry_of : ℕ → Txn → TxnRef
-entry_of first txn = record { script = txn.script; stamp = txn.stamp; first = first; count = length txn.writes }
+abbrev pub txn_ref_of : ℕ → Txn → TxnRef
+txn_ref_of first txn = record { script = txn.script; stamp = txn.stamp; first = first; count = length txn.writes }
 
 -- the same of each transaction
-abbrev pub entries_of : ℕ → List Txn → List TxnRef
-entries_of first [] = []
-entries_of first (txn ∷ txns) = entry_of first txn ∷ entries_of (first + length txn.writes) txns
+abbrev pub txn_refs_from : ℕ → List Txn → List TxnRef
+txn_refs_from first [] = []
+txn_refs_from first (txn ∷ txns) = txn_ref_of first txn ∷ txn_refs_from (first + length txn.writes) txns
 
 -- the payload at a place
 abbrev pub payload_at : List ℕ → Place → List ℕ
@@ -65,6 +65,6 @@ LieAt bytes tables (place ∷ places) (w ∷ writes) = LiesAt bytes tables place
 
 -- the index of these transactions, and of the writes behind them
 pub record IsIndex (bytes : List ℕ) (tables : List TableDef) (f : Found) (txns : List Txn) (writes : List Write) : Type 0 where
-  pub entries : f.txns ≡ entries_of 1 txns
+  pub entries : f.txns ≡ txn_refs_from 1 txns
   pub closed : f.closed ≡ length (writes_of txns)
   pub places : LieAt bytes tables f.places (writes_of txns ++ writes)

@@ -2,11 +2,10 @@ pub mod Payloads
 pub mod Refs
 pub mod Stages
 pub mod Index
-pub mod Progress
+pub mod DecoderStates
 pub mod Log
 pub mod Holding
 pub mod Buffer
 pub mod Feeding
 pub mod Decoding
 pub mod Laws
-pub mod LawFaults

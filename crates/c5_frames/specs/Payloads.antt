@@ -11,19 +11,14 @@ use Rattle.c5_frames.specs.declared.payload.Checked.TheVariants as checked
 use Rattle.c5_frames.specs.declared.payload.Mark.{Mark}
 use Rattle.c5_frames.specs.declared.payload.NameRef.{NameRef}
 
--- what a function returned, seen by view, is what reading gives
-abbrev pub Gives : {X Y : Type 0} → (X → Y) → Result X LogKind → Result Y LogKind → Type 0
-Gives view (Ok x) read = read ≡ Ok (view x)
-Gives view (Err kind) read = read ≡ Err kind
-
 -- a test fails exactly where reading does, with its kind
 abbrev pub Passes : {X Y : Type 0} → Result X LogKind → Result Y LogKind → Type 0
 Passes {X} {Y} (Ok x) read = (y : Y) × (read ≡ Ok y)
 Passes (Err kind) read = read ≡ Err kind
 
 -- the bytes behind what was read
-abbrev pub behind : {X : Type 0} → Result (X × List ℕ) LogKind → Result (List ℕ) LogKind
-behind read = read >>= λ x. Ok x.1
+abbrev pub unread : {X : Type 0} → Result (X × List ℕ) LogKind → Result (List ℕ) LogKind
+unread read = read >>= λ x. Ok x.1
 
 -- the name of the write that stands behind the byte `W`
 abbrev pub name_at : List TableDef → List ℕ → Result RowName LogKind

@@ -1,7 +1,10 @@
 //! A log as it lies in memory.
 
-ghost use Rattle.std.specs.Prelude.{◌≡◌, ◌≤◌, ◌<◌, ◌+◌, ◌-◌, ℕ, Some, IfSome, length, take, slice_get, option_map};
-ghost use Rattle.c5_frames.specs.Index.{writes_of, entry_of};
+ghost use Rattle.std.specs.Prelude.{◌≡◌, ◌≤◌, ◌<◌, ◌+◌, ◌-◌, ℕ, Ok, Some, IfSome, length, take, slice_get, option_map};
+ghost use Rattle.c5_rows.specs.Sizes.{max_log_bytes};
+ghost use Rattle.c5_definitions.specs.Items.{LogParts, log_of};
+ghost use Rattle.c5_definitions.specs.Lawful.{Spells};
+ghost use Rattle.c5_frames.specs.Index.{writes_of, txn_ref_of};
 ghost use Rattle.c5_frames.specs.Holding.{txns_in, HoldsLog};
 
 use crate::frames::payload_in;
@@ -30,6 +33,11 @@ impl Model for LogBuffer {
     ghost invariant = { IsBuffer };
 }
 
+// What is read of bytes is what they spell.
+pub(crate) fn spells(bytes: &[u8])
+    ensures { (log : LogParts) → log_of bytes.now ≡ Ok log → Spells bytes.now log.tables log.txns }
+{}
+
 /// The log of these bytes, tables and frames.
 pub(crate) fn make_buffer(bytes: Vec<u8>, schema: Schema, index: Index) -> LogBuffer
     requires { HoldsLog bytes.items schema index }
@@ -50,10 +58,12 @@ impl LogBuffer {
         &self.schema
     }
 
-    /// The bytes.
+    /// The bytes. They spell the tables and the transactions.
     pub fn bytes(&self) -> &[u8]
-        ensures { result.now ≡ self.now.bytes }
+        ensures value { result.now ≡ self.now.bytes }
+        ensures spelled { Spells self.now.bytes self.now.tables self.now.txns }
     {
+        spells(&self.bytes);
         &self.bytes
     }
 
@@ -66,7 +76,8 @@ impl LogBuffer {
 
     /// The number of writes.
     pub fn writes(&self) -> u32
-        ensures { result ≡ length (writes_of self.now.txns) }
+        ensures value { result ≡ length (writes_of self.now.txns) }
+        ensures few { length (writes_of self.now.txns) ≤ max_log_bytes }
     {
         self.index.places.len() as u32
     }
@@ -74,9 +85,8 @@ impl LogBuffer {
     /// The transaction of this number, which counts from 0.
     pub fn txn(&self, p: u32) -> TxnRef
         requires { p < length self.now.txns }
-        ensures entry { Some result ≡ option_map (entry_of (length (writes_of (take p self.now.txns)) + 1)) (slice_get self.now.txns p) }
+        ensures entry { Some result ≡ option_map (txn_ref_of (length (writes_of (take p self.now.txns)) + 1)) (slice_get self.now.txns p) }
         ensures some { 1 ≤ result.first }
-        ensures few { length (writes_of self.now.txns) ≤ 88080384 }
         // Its writes are the ones from its first number on.
         ensures within { result.first + result.count ≤ length (writes_of self.now.txns) + 1 }
         ensures writes { IfSome (slice_get self.now.txns p) (λ txn. (i : ℕ) → i < result.count → slice_get (writes_of self.now.txns) (result.first + i - 1) ≡ slice_get txn.writes i) }

@@ -2,10 +2,11 @@
 
 ghost use Rattle.std.specs.Prelude.{◌≡◌, ◌<◌, ◌≤◌, [], Some, Ok, length, drop, slice_get, option_map};
 ghost use Rattle.std.specs.Option.{option_and_then};
+ghost use Rattle.c5_rows.specs.Sizes.{max_columns};
 ghost use Rattle.c5_rows.specs.declared.cells.Cell.TheVariants.{Txt};
 ghost use Rattle.c5_definitions.specs.Frames.{int_at, text_at, cell_at, cells_at};
-ghost use Rattle.c5_frames.specs.Payloads.{behind};
-ghost use Rattle.c5_frames.specs.Refs.{Reads, HoldRow, cells_of, text_of};
+ghost use Rattle.c5_frames.specs.Payloads.{unread};
+ghost use Rattle.c5_frames.specs.Refs.{Reads, HoldRow, cells_held, text_bytes_of};
 
 use crate::numbers::i64_in;
 use c5_rows::{Cell, CellType, Row, TextCell};
@@ -55,7 +56,7 @@ fn first_cell(cell_type: CellType, bytes: &[u8]) -> (Cell, &[u8])
 #[tactic(auto, unfolding(c5_definitions::specs::Frames::cell_at))]
 fn behind_cell(cell_type: CellType, bytes: &[u8]) -> &[u8]
     requires { Reads (cell_at cell_type bytes.now) }
-    ensures { behind (cell_at cell_type bytes.now) ≡ Ok result.now }
+    ensures { unread (cell_at cell_type bytes.now) ≡ Ok result.now }
 {
     match cell_type {
         CellType::Int => first_int(bytes).1,
@@ -67,7 +68,7 @@ fn behind_cell(cell_type: CellType, bytes: &[u8]) -> &[u8]
 fn cells_from<'a>(columns: &[CellType], bytes: &'a [u8], col: usize) -> &'a [u8]
     requires row { HoldRow columns.now bytes.now }
     requires column { col < length columns.now }
-    ensures { cells_at (drop col columns.now) result.now ≡ Ok (drop col (cells_of columns.now bytes.now), []) }
+    ensures { cells_at (drop col columns.now) result.now ≡ Ok (drop col (cells_held columns.now bytes.now), []) }
 {
     let mut rest = bytes;
     for cell_type in &columns[..col] {
@@ -80,7 +81,7 @@ fn cells_from<'a>(columns: &[CellType], bytes: &'a [u8], col: usize) -> &'a [u8]
 pub fn cell_in(columns: &[CellType], bytes: &[u8], col: usize) -> Cell
     requires row { HoldRow columns.now bytes.now }
     requires column { col < length columns.now }
-    ensures { slice_get (cells_of columns.now bytes.now) col ≡ Some result }
+    ensures { slice_get (cells_held columns.now bytes.now) col ≡ Some result }
 {
     let rest = cells_from(columns, bytes, col);
     first_cell(columns[col], rest).0
@@ -90,7 +91,7 @@ pub fn cell_in(columns: &[CellType], bytes: &[u8], col: usize) -> Cell
 pub fn text_in<'a>(columns: &[CellType], bytes: &'a [u8], col: usize) -> Option<&'a [u8]>
     requires row { HoldRow columns.now bytes.now }
     requires column { col < length columns.now }
-    ensures { option_map (λ text. text.now) result ≡ option_and_then text_of (slice_get (cells_of columns.now bytes.now) col) }
+    ensures { option_map (λ text. text.now) result ≡ option_and_then text_bytes_of (slice_get (cells_held columns.now bytes.now) col) }
 {
     let rest = cells_from(columns, bytes, col);
     match columns[col] {
@@ -105,12 +106,12 @@ pub fn text_in<'a>(columns: &[CellType], bytes: &'a [u8], col: usize) -> Option<
 pub fn row_in(columns: &[CellType], bytes: &[u8]) -> Row
     requires row { HoldRow columns.now bytes.now }
     requires some { 1 ≤ length columns.now }
-    requires at_most_eight { length columns.now ≤ 8 }
-    ensures { result ≡ cells_of columns.now bytes.now }
+    requires few { length columns.now ≤ max_columns }
+    ensures { result ≡ cells_held columns.now bytes.now }
 {
-    let (first, behind) = first_cell(columns[0], bytes);
+    let (first, unread) = first_cell(columns[0], bytes);
     let mut row = Row::one(first);
-    let mut rest = behind;
+    let mut rest = unread;
     for column in 1..columns.len() {
         let (cell, after) = first_cell(columns[column], rest);
         row.push(cell);

@@ -1,17 +1,18 @@
 //! The decoder of a log that comes in pieces.
 
 ghost use Rattle.std.specs.Prelude.{◌≡◌, ◌≤◌, ◌+◌, ◌-◌, ◌++◌, List, [], None, Ok, Err, IfOk, IfErr, OnOk, OnErr, length};
+ghost use Rattle.c5_rows.specs.Sizes.{max_log_bytes};
 ghost use Rattle.c5_rows.specs.declared.tables.TableDef.{TableDef};
 ghost use Rattle.c5_rows.specs.declared.writes.Txn.{Txn};
-ghost use Rattle.c5_definitions.specs.Items.{LogParts, log_of, after_bytes, at_start};
+ghost use Rattle.c5_definitions.specs.Items.{after_bytes, at_start};
 ghost use Rattle.c5_definitions.specs.Lawful.{Spells};
 ghost use Rattle.c5_frames.specs.Feeding.{Feeds, Finishes};
 ghost use Rattle.c5_frames.specs.Index.{HasRoom};
-ghost use Rattle.c5_frames.specs.Progress.{Decodes, state_of};
+ghost use Rattle.c5_frames.specs.DecoderStates.{Decodes, decoded_state};
 
-use crate::buffer::{LogBuffer, make_buffer};
+use crate::buffer::{LogBuffer, make_buffer, spells};
+use crate::decoder_state::DecoderState;
 use crate::index::Index;
-use crate::progress::Progress;
 use crate::stage::{Stage, begin_of_item, is_end};
 use crate::steps::take_items;
 use c5_definitions::{LogFault, LogKind};
@@ -32,10 +33,14 @@ pub enum FeedFault {
 }
 
 // Takes the memory for a piece, and copies it.
-fn take_piece(bytes: &mut Vec<u8>, progress: &mut Progress, piece: &[u8]) -> Result<(), NoMemory>
+fn take_piece(
+    bytes: &mut Vec<u8>,
+    progress: &mut DecoderState,
+    piece: &[u8],
+) -> Result<(), NoMemory>
     requires within { progress.old.at ≤ length bytes.old.items }
-    requires small { length bytes.old.items + length piece.now ≤ 88080384 }
-    ensures state { state_of progress.new ≡ state_of progress.old }
+    requires small { length bytes.old.items + length piece.now ≤ max_log_bytes }
+    ensures state { decoded_state progress.new ≡ decoded_state progress.old }
     ensures ok { OnOk result (bytes.new.items ≡ bytes.old.items ++ piece.now) }
     ensures room { OnOk result (HasRoom (length bytes.new.items - progress.new.at) progress.new.index) }
     ensures err { OnErr result (bytes.new.items ≡ bytes.old.items) }
@@ -49,13 +54,13 @@ fn take_piece(bytes: &mut Vec<u8>, progress: &mut Progress, piece: &[u8]) -> Res
 // Takes a piece where no fault has come.
 fn feed_whole(
     bytes: &mut Vec<u8>,
-    progress: &mut Progress,
+    progress: &mut DecoderState,
     fault: &mut Option<LogFault>,
     piece: &[u8],
 ) -> Result<(), FeedFault>
     requires decodes { Decodes bytes.old.items progress.old None }
     requires none { fault.old ≡ None }
-    requires small { length bytes.old.items + length piece.now ≤ 88080384 }
+    requires small { length bytes.old.items + length piece.now ≤ max_log_bytes }
     ensures feeds { Feeds bytes.old.items piece.now bytes.new.items result }
     ensures decodes { Decodes bytes.new.items progress.new fault.new }
 {
@@ -86,12 +91,12 @@ fn feed_faulty(bytes: &mut Vec<u8>, found: LogFault, piece: &[u8]) -> Result<(),
 
 fn feed_piece(
     bytes: &mut Vec<u8>,
-    progress: &mut Progress,
+    progress: &mut DecoderState,
     fault: &mut Option<LogFault>,
     piece: &[u8],
 ) -> Result<(), FeedFault>
     requires decodes { Decodes bytes.old.items progress.old fault.old }
-    requires small { length bytes.old.items + length piece.now ≤ 88080384 }
+    requires small { length bytes.old.items + length piece.now ≤ max_log_bytes }
     ensures feeds { Feeds bytes.old.items piece.now bytes.new.items result }
     ensures decodes { Decodes bytes.new.items progress.new fault.new }
 {
@@ -101,17 +106,12 @@ fn feed_piece(
     }
 }
 
-// What is read of bytes is what they spell.
-fn spells(bytes: &[u8])
-    ensures { (log : LogParts) → log_of bytes.now ≡ Ok log → Spells bytes.now log.tables log.txns }
-{}
-
-fn finish_log(bytes: Vec<u8>, progress: Progress) -> Result<LogBuffer, LogFault>
+fn finish_log(bytes: Vec<u8>, progress: DecoderState) -> Result<LogBuffer, LogFault>
     requires { Decodes bytes.items progress None }
     ensures read { Finishes bytes.items result }
     ensures spelled { IfOk result (λ log. Spells bytes.items log.tables log.txns) }
 {
-    let Progress {
+    let DecoderState {
         schema,
         stage,
         at,
@@ -134,7 +134,7 @@ fn finish_log(bytes: Vec<u8>, progress: Progress) -> Result<LogBuffer, LogFault>
 #[derive(Debug, Drop)]
 pub struct Decoder {
     bytes: Vec<u8>,
-    progress: Progress,
+    progress: DecoderState,
     // The fault of the bytes.
     fault: Option<LogFault>,
 }
@@ -158,7 +158,7 @@ impl Decoder {
     {
         Decoder {
             bytes: Vec::new(alloc),
-            progress: Progress {
+            progress: DecoderState {
                 schema: None,
                 stage: Stage::Magic,
                 at: 0,
@@ -177,7 +177,7 @@ impl Decoder {
 
     /// Takes the next piece. `NoMemory` changes nothing; `Log` is the fault of the bytes that were fed.
     pub fn feed(&mut self, piece: &[u8]) -> Result<(), FeedFault>
-        requires { length self.old + length piece.now ≤ 88080384 }
+        requires { length self.old + length piece.now ≤ max_log_bytes }
         ensures { Feeds self.old piece.now self.new result }
     {
         feed_piece(&mut self.bytes, &mut self.progress, &mut self.fault, piece)

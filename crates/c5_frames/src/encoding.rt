@@ -2,7 +2,7 @@
 
 ghost use Rattle.std.specs.Prelude.{◌≡◌, ◌≤◌, ◌<◌, ◌^◌, ◌++◌, All, IfOk, OnOk, length, map};
 ghost use Rattle.std.specs.List.{flat_map};
-ghost use Rattle.c5_definitions.specs.Lawful.{IsLawful, Spells};
+ghost use Rattle.c5_definitions.specs.Lawful.{IsLawfulLog, Spells};
 ghost use Rattle.c5_definitions.specs.Spelling.{spelled_u32, spelled_u64, spelled_type, spelled_table, spelled_header, spelled_cell, spelled_change, write_payload, mark_payload, end_payload, spelled_frame, spelled_txn, spelled_log};
 
 use c5_rows::{Cell, CellType, Change, NoMemory, Schema, TableDef, Txn, Write};
@@ -229,7 +229,7 @@ pub fn encode(alloc: Global, schema: &Schema, txns: &[Txn]) -> Result<Vec<u8>, N
     requires txns { length txns.now < 2 ^ 32 }
     requires writes { All (λ txn. length txn.writes < 2 ^ 32) txns.now }
     ensures spelled { IfOk result (λ bytes. bytes.items ≡ spelled_log schema.now txns.now) }
-    ensures log { IfOk result (λ bytes. IsLawful schema.now txns.now → Spells bytes.items schema.now txns.now) }
+    ensures log { IfOk result (λ bytes. IsLawfulLog schema.now txns.now → Spells bytes.items schema.now txns.now) }
 {
     let mut out = Vec::new(alloc);
     push_header(&mut out, schema.tables())?;

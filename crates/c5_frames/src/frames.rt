@@ -9,12 +9,12 @@ ghost use Rattle.c5_rows.specs.declared.writes.Txn.{Txn};
 ghost use Rattle.c5_definitions.specs.Items.{is_above, last_of};
 ghost use Rattle.c5_frames.specs.Payloads.{named, marked, ended, shown_at, name_of, numbers_of};
 ghost use Rattle.c5_frames.specs.Index.{found_in, payload_at, IsIndex};
-ghost use Rattle.c5_frames.specs.Progress.{tables_of, state_of, IsReady, Faults};
+ghost use Rattle.c5_frames.specs.DecoderStates.{tables_of, decoded_state, IsReady, Faults};
 
+use crate::decoder_state::DecoderState;
 use crate::header::tables_in;
 use crate::index::{Index, Place};
 use crate::payload::{Checked, Mark, NameRef, check_payload};
-use crate::progress::Progress;
 use crate::refs::name_in;
 use crate::stage::Stage;
 use c5_definitions::LogKind;
@@ -50,14 +50,14 @@ fn is_above_last(bytes: &[u8], index: &Index, name: NameRef) -> bool
     is_above(name, name_in(payload_in(bytes, &place)))
 }
 
-fn take_write(bytes: &[u8], p: &mut Progress, size: u32, name: NameRef) -> Result<(), LogKind>
+fn take_write(bytes: &[u8], p: &mut DecoderState, size: u32, name: NameRef) -> Result<(), LogKind>
     requires ready { IsReady bytes.now p.old }
     requires stage { p.old.stage ≡ Stage.Payload size }
     requires whole { p.old.at + size ≤ length bytes.now }
     requires shown { shown_at (tables_of p.old.schema) (take size (drop p.old.at bytes.now)) ≡ Ok (named (name_of name)) }
     ensures ready { OnOk result (IsReady bytes.now p.new) }
     ensures further { OnOk result (p.old.at < p.new.at) }
-    ensures fault { IfErr result (λ kind. Faults bytes.now (state_of p.old) kind) }
+    ensures fault { IfErr result (λ kind. Faults bytes.now (decoded_state p.old) kind) }
 {
     if !is_above_last(bytes, &p.index, name) {
         return Err(LogKind::Order);
@@ -68,14 +68,14 @@ fn take_write(bytes: &[u8], p: &mut Progress, size: u32, name: NameRef) -> Resul
     Ok(())
 }
 
-fn take_mark(bytes: &[u8], p: &mut Progress, size: u32, mark: Mark) -> Result<(), LogKind>
+fn take_mark(bytes: &[u8], p: &mut DecoderState, size: u32, mark: Mark) -> Result<(), LogKind>
     requires ready { IsReady bytes.now p.old }
     requires stage { p.old.stage ≡ Stage.Payload size }
     requires whole { p.old.at + size ≤ length bytes.now }
     requires shown { shown_at (tables_of p.old.schema) (take size (drop p.old.at bytes.now)) ≡ Ok (marked (numbers_of mark)) }
     ensures ready { OnOk result (IsReady bytes.now p.new) }
     ensures further { OnOk result (p.old.at < p.new.at) }
-    ensures fault { IfErr result (λ kind. Faults bytes.now (state_of p.old) kind) }
+    ensures fault { IfErr result (λ kind. Faults bytes.now (decoded_state p.old) kind) }
 {
     if mark.stamp <= p.index.stamp {
         return Err(LogKind::Stamp);
@@ -89,14 +89,14 @@ fn take_mark(bytes: &[u8], p: &mut Progress, size: u32, mark: Mark) -> Result<()
     Ok(())
 }
 
-fn take_end(bytes: &[u8], p: &mut Progress, size: u32, count: u32) -> Result<(), LogKind>
+fn take_end(bytes: &[u8], p: &mut DecoderState, size: u32, count: u32) -> Result<(), LogKind>
     requires ready { IsReady bytes.now p.old }
     requires stage { p.old.stage ≡ Stage.Payload size }
     requires whole { p.old.at + size ≤ length bytes.now }
     requires shown { shown_at (tables_of p.old.schema) (take size (drop p.old.at bytes.now)) ≡ Ok (ended count) }
     ensures ready { OnOk result (IsReady bytes.now p.new) }
     ensures further { OnOk result (p.old.at < p.new.at) }
-    ensures fault { IfErr result (λ kind. Faults bytes.now (state_of p.old) kind) }
+    ensures fault { IfErr result (λ kind. Faults bytes.now (decoded_state p.old) kind) }
 {
     if p.index.open() != 0 {
         return Err(LogKind::End);
@@ -110,13 +110,13 @@ fn take_end(bytes: &[u8], p: &mut Progress, size: u32, count: u32) -> Result<(),
 }
 
 /// Takes the payload that comes next.
-pub fn take_payload(bytes: &[u8], p: &mut Progress, size: u32) -> Result<(), LogKind>
+pub fn take_payload(bytes: &[u8], p: &mut DecoderState, size: u32) -> Result<(), LogKind>
     requires ready { IsReady bytes.now p.old }
     requires stage { p.old.stage ≡ Stage.Payload size }
     requires whole { p.old.at + size ≤ length bytes.now }
     ensures ready { OnOk result (IsReady bytes.now p.new) }
     ensures further { OnOk result (p.old.at < p.new.at) }
-    ensures fault { IfErr result (λ kind. Faults bytes.now (state_of p.old) kind) }
+    ensures fault { IfErr result (λ kind. Faults bytes.now (decoded_state p.old) kind) }
 {
     let payload = payload_in(bytes, &Place { at: p.at, size });
     match check_payload(tables_in(&p.schema), payload) {

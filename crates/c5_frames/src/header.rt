@@ -1,23 +1,27 @@
 //! The items that are no payload.
 
 ghost use Rattle.std.specs.Prelude.{◌≡◌, ◌≤◌, ◌<◌, ◌-◌, ◌==◌, ◌++◌, ◌∷◌, ℕ, List, [], None, is_some, length, if◌then◌else◌};
-ghost use Rattle.c5_rows.specs.Tables.{table_of};
+ghost use Rattle.c5_rows.specs.Sizes.{max_columns, max_tables};
+ghost use Rattle.c5_rows.specs.Tables.{table_number};
 ghost use Rattle.c5_rows.specs.declared.tables.TableDef as the_table;
-ghost use Rattle.c5_definitions.specs.Items.{the_magic, table_count, name_length, table_name, column_count, column_types, frame_length, frame_payload, number_in, name_in, type_in, types_in, size_of};
-ghost use Rattle.c5_frames.specs.Payloads.{Gives};
+ghost use Rattle.c5_definitions.specs.Items.{the_magic, table_count, name_length, table_name, column_count, column_types, frame_length, frame_payload, header_count, new_table_name, type_of_byte, types_of_bytes, size_of};
+ghost use Rattle.c5_definitions.specs.Steps.{Gives};
 ghost use Rattle.c5_frames.specs.Stages.{item_of};
-ghost use Rattle.c5_frames.specs.Progress.{tables_of, tables_after, AreComing, IsDue, IsPlain};
+ghost use Rattle.c5_frames.specs.DecoderStates.{tables_of, tables_after, AreComing, IsDue, IsPlain};
 
 use crate::numbers::u32_in;
 use crate::stage::Stage;
 use c5_definitions::LogKind;
-use c5_rows::{CellType, Columns, Schema, TableDef, TableName};
+use c5_rows::{
+    CellType, Columns, MAX_COLUMNS, MAX_NAME_BYTES, MAX_PAYLOAD_BYTES, MAX_TABLES,
+    MIN_PAYLOAD_BYTES, Schema, TableDef, TableName,
+};
 
 const MAGIC: [u8; 4] = *b"C5L1";
 
-#[tactic(auto, unfolding(c5_definitions::specs::Items::number_in))]
+#[tactic(auto, unfolding(c5_definitions::specs::Items::header_count))]
 fn number_in(low: u8, high: u8, item: &[u8]) -> Result<u8, LogKind>
-    ensures { result ≡ number_in low high item.now }
+    ensures { result ≡ header_count low high item.now }
 {
     match item {
         [] => Err(LogKind::Header),
@@ -38,7 +42,7 @@ pub fn tables_in(schema: &Option<Schema>) -> &[TableDef]
 
 // Whether a table has the name.
 fn is_taken(schema: &Option<Schema>, name: &TableName) -> bool
-    ensures { result ≡ is_some (table_of name.now (tables_of schema.now)) }
+    ensures { result ≡ is_some (table_number name.now (tables_of schema.now)) }
 {
     match schema {
         None => false,
@@ -46,9 +50,9 @@ fn is_taken(schema: &Option<Schema>, name: &TableName) -> bool
     }
 }
 
-#[tactic(auto, unfolding(c5_definitions::specs::Items::name_in))]
+#[tactic(auto, unfolding(c5_definitions::specs::Items::new_table_name))]
 fn name_in(schema: &Option<Schema>, item: &[u8]) -> Result<TableName, LogKind>
-    ensures { result ≡ name_in (tables_of schema.now) item.now }
+    ensures { result ≡ new_table_name (tables_of schema.now) item.now }
 {
     match TableName::new(item) {
         Ok(name) => {
@@ -62,9 +66,9 @@ fn name_in(schema: &Option<Schema>, item: &[u8]) -> Result<TableName, LogKind>
     }
 }
 
-#[tactic(auto, unfolding(c5_definitions::specs::Items::type_in))]
+#[tactic(auto, unfolding(c5_definitions::specs::Items::type_of_byte))]
 fn type_in(byte: u8) -> Result<CellType, LogKind>
-    ensures { result ≡ type_in byte }
+    ensures { result ≡ type_of_byte byte }
 {
     match byte {
         1 => Ok(CellType::Int),
@@ -76,10 +80,10 @@ fn type_in(byte: u8) -> Result<CellType, LogKind>
 // The columns of the types that these bytes stand for.
 fn columns_in(item: &[u8]) -> Result<Columns, LogKind>
     requires some { 1 ≤ length item.now }
-    requires at_most_eight { length item.now ≤ 8 }
-    ensures { result ≡ types_in item.now }
+    requires few { length item.now ≤ max_columns }
+    ensures { result ≡ types_of_bytes item.now }
 {
-    let mut types = [CellType::Int; 8];
+    let mut types = [CellType::Int; MAX_COLUMNS];
     for (column, byte) in item.iter().enumerate() {
         let cell_type = type_in(*byte)?;
         types[column] = cell_type;
@@ -92,8 +96,8 @@ fn columns_in(item: &[u8]) -> Result<Columns, LogKind>
 
 // Adds a table, whose name is new.
 fn add_table(schema: &mut Option<Schema>, table: TableDef)
-    requires new { table_of table.name (tables_of schema.old) ≡ None }
-    requires room { length (tables_of schema.old) < 16 }
+    requires new { table_number table.name (tables_of schema.old) ≡ None }
+    requires room { length (tables_of schema.old) < max_tables }
     ensures { tables_of schema.new ≡ tables_of schema.old ++ table ∷ [] }
 {
     match schema {
@@ -119,7 +123,7 @@ fn after_magic(item: &[u8]) -> Result<Stage, LogKind>
 fn after_table_count(item: &[u8]) -> Result<Stage, LogKind>
     ensures { (tables : List the_table.TableDef) → Gives (λ stage. (tables, item_of stage)) result (tables_after table_count tables item.now) }
 {
-    match number_in(1, 16, item) {
+    match number_in(1, MAX_TABLES as u8, item) {
         Ok(missing) => Ok(Stage::NameLength { missing }),
         Err(kind) => Err(kind),
     }
@@ -129,7 +133,7 @@ fn after_table_count(item: &[u8]) -> Result<Stage, LogKind>
 fn after_name_length(missing: u8, item: &[u8]) -> Result<Stage, LogKind>
     ensures { (tables : List the_table.TableDef) → Gives (λ stage. (tables, item_of stage)) result (tables_after (name_length missing) tables item.now) }
 {
-    match number_in(1, 16, item) {
+    match number_in(1, MAX_NAME_BYTES as u8, item) {
         Ok(size) => Ok(Stage::NameBytes { missing, size }),
         Err(kind) => Err(kind),
     }
@@ -149,7 +153,7 @@ fn after_name(schema: &Option<Schema>, missing: u8, item: &[u8]) -> Result<Stage
 fn after_column_count(missing: u8, name: TableName, item: &[u8]) -> Result<Stage, LogKind>
     ensures { (tables : List the_table.TableDef) → Gives (λ stage. (tables, item_of stage)) result (tables_after (column_count missing name) tables item.now) }
 {
-    match number_in(1, 8, item) {
+    match number_in(1, MAX_COLUMNS as u8, item) {
         Ok(size) => Ok(Stage::ColumnTypes {
             missing,
             name,
@@ -167,9 +171,9 @@ fn after_column_types(
     item: &[u8],
 ) -> Result<Stage, LogKind>
     requires some { 1 ≤ length item.now }
-    requires at_most_eight { length item.now ≤ 8 }
+    requires few { length item.now ≤ max_columns }
     requires coming { AreComing (tables_of schema.old) missing }
-    requires new { table_of name (tables_of schema.old) ≡ None }
+    requires new { table_number name (tables_of schema.old) ≡ None }
     ensures { (size : ℕ) → Gives (λ stage. (tables_of schema.new, item_of stage)) result (tables_after (column_types missing name size) (tables_of schema.old) item.now) }
 {
     match columns_in(item) {
@@ -202,7 +206,7 @@ pub fn after_frame_length(item: &[u8]) -> Result<u32, LogKind>
     ensures { (tables : List the_table.TableDef) → Gives (λ size. (tables, frame_payload size)) result (tables_after frame_length tables item.now) }
 {
     let size = u32_in(item);
-    if size < 5 || size > 300 {
+    if size < MIN_PAYLOAD_BYTES || size > MAX_PAYLOAD_BYTES {
         return Err(LogKind::Length);
     }
     Ok(size)

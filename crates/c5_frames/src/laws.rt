@@ -1,12 +1,13 @@
-//! The law of logs: a list of bytes has no fault exactly where it is a log, and of one log only.
+//! The law of logs: a list of bytes has no fault if and only if it is a log, and it is the log of one list
+//! of tables and transactions.
 
-ghost use Rattle.c5_frames.specs.Laws.{FaultlessAreLogs, LogsAreRead, LogsAreUnique, LogsAreNoPrefixes, FaultsStay, FaultsAreFinal, FrontsAreCut, FaultsAreWithin};
-ghost use Rattle.c5_frames.specs.LawFaults.{HaveFaults, header_faults, frame_faults, place_faults, cut_faults};
+ghost use Rattle.c5_frames.specs.Laws.{FaultlessAreLogs, LogsAreRead, LogsAreUnique, LogsAreNoPrefixes, FaultsStay, FaultsAreFinal, PrefixesAreCut, NothingFollowsLogs, FaultsAreWithin};
 
-/// Bytes have no fault exactly where some tables and transactions have them as their spelling. These are
-/// then what is read of the bytes, and no others have that spelling. No log is the front of a longer one.
-/// A fault that is found before the input ends stays, whatever bytes follow. A log that lacks its last
-/// bytes is cut, and has no other fault. A fault's offset is at most the number of bytes.
+/// Bytes have no fault if and only if they spell some tables and transactions. Those are then what is read
+/// of the bytes, and no others have that spelling. No log is a proper prefix of another. A fault that is
+/// found before the input ends stays, whatever bytes follow. A proper prefix of a log is cut, at the first
+/// item that isn't whole in it; bytes after a log are the fault `After`, at the log's length. The offset of
+/// a fault is at most the number of bytes.
 pub fn one_log()
     ensures no_fault { FaultlessAreLogs }
     ensures read { LogsAreRead }
@@ -14,14 +15,7 @@ pub fn one_log()
     ensures no_prefix { LogsAreNoPrefixes }
     ensures stays { FaultsStay }
     ensures for_good { FaultsAreFinal }
-    ensures cut { FrontsAreCut }
+    ensures cut { PrefixesAreCut }
+    ensures after { NothingFollowsLogs }
     ensures within { FaultsAreWithin }
-{}
-
-/// Bytes have the faults that were worked by hand.
-pub fn worked_faults()
-    ensures of_headers { HaveFaults header_faults }
-    ensures of_frames { HaveFaults frame_faults }
-    ensures of_places { HaveFaults place_faults }
-    ensures of_ends { HaveFaults cut_faults }
 {}

@@ -19,6 +19,7 @@
 mod buffer;
 mod cells;
 mod decoder;
+mod decoder_state;
 mod encoding;
 mod frames;
 mod header;
@@ -26,7 +27,6 @@ mod index;
 mod laws;
 mod numbers;
 mod payload;
-mod progress;
 mod refs;
 mod stage;
 mod steps;
@@ -36,7 +36,7 @@ pub use c5_definitions::{LogFault, LogKind};
 pub use decoder::{Decoder, FeedFault};
 pub use encoding::encode;
 pub use index::TxnRef;
-pub use laws::{one_log, worked_faults};
+pub use laws::one_log;
 pub use refs::{RowRef, WriteRef};
 
 #[cfg(test)]

@@ -1,14 +1,14 @@
 //! The payload of a frame, tested where it lies: nothing is built of it and no byte is copied.
 
 ghost use Rattle.std.specs.Prelude.{◌≡◌, if◌then◌else◌};
-ghost use Rattle.std.specs.List.{list_all};
+ghost use Rattle.c5_rows.specs.Sizes.{max_key_bytes, max_text_bytes};
 ghost use Rattle.c5_rows.specs.Bytes.{is_key_byte, is_text_byte, checked_bytes};
 ghost use Rattle.c5_definitions.specs.Steps.{or_cause};
 ghost use Rattle.c5_definitions.specs.Frames.{key_at, int_at, text_at, cell_at, cells_at, row_at, change_at, mark_at, end_at};
 
 use crate::numbers::{u32_in, u64_in};
 use c5_definitions::LogKind;
-use c5_rows::{CellType, TableDef};
+use c5_rows::{CellType, MAX_KEY_BYTES, MAX_TEXT_BYTES, TableDef, are_key_bytes, are_text_bytes};
 
 /// The numbers of a commit mark.
 #[derive(Clone, Copy, Debug, PartialEq, Eq)]
@@ -34,51 +34,19 @@ pub enum Checked<'a> {
     End(u32),
 }
 
-ghost use Rattle.c5_frames.specs.Payloads.{Gives, Passes, behind, shown_at, shown_by, numbers_of, name_of, name_at};
-
-fn is_key_byte(byte: u8) -> bool
-    ensures { result ≡ is_key_byte byte }
-{
-    byte >= 0x21 && byte <= 0x7e && byte != b'"'
-}
-
-fn is_text_byte(byte: u8) -> bool
-    ensures { result ≡ is_text_byte byte }
-{
-    byte >= 0x20 && byte <= 0x7e && byte != b'"'
-}
-
-// Each byte is tested, also behind one that is not allowed: so there is no branch in the loop.
-fn are_key_bytes(bytes: &[u8]) -> bool
-    ensures { result ≡ list_all is_key_byte bytes.now }
-{
-    let mut all = true;
-    for byte in bytes {
-        all = all & is_key_byte(*byte);
-    }
-    all
-}
-
-fn are_text_bytes(bytes: &[u8]) -> bool
-    ensures { result ≡ list_all is_text_byte bytes.now }
-{
-    let mut all = true;
-    for byte in bytes {
-        all = all & is_text_byte(*byte);
-    }
-    all
-}
+ghost use Rattle.c5_frames.specs.Payloads.{Passes, unread, shown_at, shown_by, numbers_of, name_of, name_at};
+ghost use Rattle.c5_definitions.specs.Steps.{Gives};
 
 fn is_key(bytes: &[u8]) -> bool
-    ensures { or_cause LogKind.Key (checked_bytes 1 32 is_key_byte bytes.now) ≡ (if result then Ok bytes.now else Err LogKind.Key) }
+    ensures { or_cause LogKind.Key (checked_bytes 1 max_key_bytes is_key_byte bytes.now) ≡ (if result then Ok bytes.now else Err LogKind.Key) }
 {
-    bytes.len() >= 1 && bytes.len() <= 32 && are_key_bytes(bytes)
+    !bytes.is_empty() && bytes.len() <= MAX_KEY_BYTES && are_key_bytes(bytes)
 }
 
 fn is_text(bytes: &[u8]) -> bool
-    ensures { or_cause LogKind.Cell (checked_bytes 0 32 is_text_byte bytes.now) ≡ (if result then Ok bytes.now else Err LogKind.Cell) }
+    ensures { or_cause LogKind.Cell (checked_bytes 0 max_text_bytes is_text_byte bytes.now) ≡ (if result then Ok bytes.now else Err LogKind.Cell) }
 {
-    bytes.len() <= 32 && are_text_bytes(bytes)
+    bytes.len() <= MAX_TEXT_BYTES && are_text_bytes(bytes)
 }
 
 // The key, and the bytes behind it.
@@ -102,7 +70,7 @@ fn skip_key(bytes: &[u8]) -> Result<(&[u8], &[u8]), LogKind>
 
 #[tactic(auto, unfolding(c5_definitions::specs::Frames::text_at))]
 fn skip_text(bytes: &[u8]) -> Result<&[u8], LogKind>
-    ensures { Gives (λ x. x.now) result (behind (text_at bytes.now)) }
+    ensures { Gives (λ x. x.now) result (unread (text_at bytes.now)) }
 {
     let Some((length, rest)) = bytes.split_first() else {
         return Err(LogKind::Cell);
@@ -120,7 +88,7 @@ fn skip_text(bytes: &[u8]) -> Result<&[u8], LogKind>
 
 #[tactic(auto, unfolding(c5_definitions::specs::Frames::int_at))]
 fn skip_int(bytes: &[u8]) -> Result<&[u8], LogKind>
-    ensures { Gives (λ x. x.now) result (behind (int_at bytes.now)) }
+    ensures { Gives (λ x. x.now) result (unread (int_at bytes.now)) }
 {
     if bytes.len() < 8 {
         return Err(LogKind::Cell);
@@ -130,7 +98,7 @@ fn skip_int(bytes: &[u8]) -> Result<&[u8], LogKind>
 
 #[tactic(auto, unfolding(c5_definitions::specs::Frames::cell_at))]
 fn skip_cell(cell_type: CellType, bytes: &[u8]) -> Result<&[u8], LogKind>
-    ensures { Gives (λ x. x.now) result (behind (cell_at cell_type bytes.now)) }
+    ensures { Gives (λ x. x.now) result (unread (cell_at cell_type bytes.now)) }
 {
     match cell_type {
         CellType::Int => skip_int(bytes),
@@ -140,7 +108,7 @@ fn skip_cell(cell_type: CellType, bytes: &[u8]) -> Result<&[u8], LogKind>
 
 // Behind a cell for each column.
 fn skip_cells<'a>(columns: &[CellType], bytes: &'a [u8]) -> Result<&'a [u8], LogKind>
-    ensures { Gives (λ x. x.now) result (behind (cells_at columns.now bytes.now)) }
+    ensures { Gives (λ x. x.now) result (unread (cells_at columns.now bytes.now)) }
 {
     let mut rest = bytes;
     for cell_type in columns {

@@ -2,14 +2,15 @@
 
 ghost use Rattle.std.specs.Prelude.{◌≡◌, ◌<◌, ◌≤◌, List, Some, Ok, length, slice_get, option_map};
 ghost use Rattle.std.specs.Option.{option_and_then};
+ghost use Rattle.c5_rows.specs.Sizes.{max_columns};
 ghost use Rattle.c5_rows.specs.declared.tables.TableDef.{TableDef};
 ghost use Rattle.c5_rows.specs.declared.writes.Write.{Write};
 ghost use Rattle.c5_definitions.specs.Frames.{frame_at, write};
-ghost use Rattle.c5_frames.specs.Refs.{row_of, put_of, text_of};
+ghost use Rattle.c5_frames.specs.Refs.{row_of_change, put_cells_of, text_bytes_of};
 
 use crate::cells::{cell_in, row_in, text_in};
 use crate::payload::NameRef;
-use c5_rows::{Cell, Change, Columns, Key, Row, RowName, TableDef};
+use c5_rows::{Cell, Change, Columns, HeldRow, Key, Row, RowName, TableDef};
 use std::marker::Model;
 
 /// A row, where its cells lie in the bytes of a log. Columns count from 0.
@@ -22,11 +23,11 @@ pub struct RowRef<'a> {
 impl<'a> Model for RowRef<'a> {
     ghost use Rattle.std.specs.Prelude.{List};
     ghost use Rattle.c5_rows.specs.declared.cells.Cell.{Cell};
-    ghost use Rattle.c5_frames.specs.Refs.{cells_of, HoldRow};
+    ghost use Rattle.c5_frames.specs.Refs.{cells_held, HoldRow};
 
     ghost Value = { List Cell };
 
-    ghost view = { λ r. cells_of r.columns r.bytes.now };
+    ghost view = { λ r. cells_held r.columns r.bytes.now };
 
     ghost invariant = { λ r. HoldRow r.columns r.bytes.now };
 }
@@ -36,7 +37,7 @@ impl<'a> RowRef<'a> {
     pub fn len(&self) -> u8
         ensures value { result ≡ length self.now }
         ensures some { 1 ≤ length self.now }
-        ensures at_most_eight { length self.now ≤ 8 }
+        ensures few { length self.now ≤ max_columns }
     {
         let _bytes = self.bytes;
         self.columns.types().len() as u8
@@ -53,7 +54,7 @@ impl<'a> RowRef<'a> {
     /// The bytes of the text in column `col`; `None` exactly where the column holds numbers.
     pub fn text(&self, col: u8) -> Option<&'a [u8]>
         requires { col < length self.now }
-        ensures { option_map (λ text. text.now) result ≡ option_and_then text_of (slice_get self.now col) }
+        ensures { option_map (λ text. text.now) result ≡ option_and_then text_bytes_of (slice_get self.now col) }
     {
         text_in(self.columns.types(), self.bytes, col as usize)
     }
@@ -62,6 +63,14 @@ impl<'a> RowRef<'a> {
     pub fn to_row(&self) -> Row
         ensures { result ≡ self.now }
     {
+        row_in(self.columns.types(), self.bytes)
+    }
+}
+
+impl<'a> HeldRow for RowRef<'a> {
+    ghost row_held = { λ row. row };
+
+    fn to_row(&self) -> Row {
         row_in(self.columns.types(), self.bytes)
     }
 }
@@ -78,18 +87,18 @@ pub struct WriteRef<'a> {
 
 impl<'a> Model for WriteRef<'a> {
     ghost use Rattle.c5_rows.specs.declared.writes.Write.{Write};
-    ghost use Rattle.c5_frames.specs.Refs.{change_of, HoldWrite};
+    ghost use Rattle.c5_frames.specs.Refs.{change_held, HoldWrite};
 
     ghost Value = { Write };
 
-    ghost view = { λ w. record { name = record { table = w.table; key = w.key.now }; change = change_of w.columns w.bytes.now } };
+    ghost view = { λ w. record { name = record { table = w.table; key = w.key.now }; change = change_held w.columns w.bytes.now } };
 
     ghost invariant = { λ w. HoldWrite w.key.now w.columns w.bytes.now };
 }
 
 // The bytes of a put's cells.
 fn put_in(bytes: &[u8]) -> Option<&[u8]>
-    ensures { option_map (λ cells. cells.now) result ≡ put_of bytes.now }
+    ensures { option_map (λ cells. cells.now) result ≡ put_cells_of bytes.now }
 {
     match bytes {
         [0, cells @ ..] => Some(cells),
@@ -127,7 +136,7 @@ impl<'a> WriteRef<'a> {
 
     /// The row of a put; `None` exactly where the row becomes absent.
     pub fn row(&self) -> Option<RowRef<'a>>
-        ensures { result ≡ row_of self.now.change }
+        ensures { result ≡ row_of_change self.now.change }
     {
         match put_in(self.bytes) {
             Some(bytes) => Some(RowRef {

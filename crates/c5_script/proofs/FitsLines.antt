@@ -5,7 +5,7 @@ use Rattle.std.specs.Str.{bytes_eq}
 use Rattle.std.proofs.lemmas.Bool.{eqb-true}
 use Rattle.c5_rows.specs.Cells.{type_of}
 use Rattle.c5_rows.specs.Bytes.{checked_bytes, is_text_byte}
-use Rattle.c5_rows.specs.Tables.{table_from}
+use Rattle.c5_rows.specs.Tables.{table_number_from}
 use Rattle.c5_rows.specs.declared.cells.CellType.{CellType}
 use Rattle.c5_rows.specs.declared.cells.CellType.TheVariants as types
 use Rattle.c5_rows.specs.declared.cells.Cell.{Cell}
@@ -20,11 +20,12 @@ use Rattle.c5_definitions.specs.declared.script.ReadLine.{ReadLine}
 use Rattle.c5_definitions.specs.declared.script.ReadLine.TheVariants.{OneRow, SumOf}
 use Rattle.c5_definitions.specs.Steps.{◌>>=◌, or_cause}
 use Rattle.c5_definitions.specs.Words.{Word, bare, quoted}
-use Rattle.c5_definitions.specs.FitsScript.{HasRow, HasIntColumn, StatementFits, ReadLineFits, BodyFits}
+use Rattle.c5_definitions.specs.FitsScript.{HasIntColumn, StatementFits, ReadLineFits, BodyFits}
+use Rattle.c5_rows.specs.Fitting.{RowFits}
 use Rattle.c5_definitions.specs.ScriptSoFar.{in_txn}
-use Rattle.c5_definitions.specs.Numerals.{is_digit, number_of}
-use Rattle.c5_definitions.specs.Places.{found_or, table_in, key_in, row_name_in, number_in, rel_in, cell_in, cells_in, row_in, columns_of, of_whole_numbers, int_column_of, column_in, each_in}
-use Rattle.c5_definitions.specs.Statements.{Form, put, del, need, add, copy, put_of, put_words, del_words, need_words, add_words, copy_words, statement_words, row_words, sum_words}
+use Rattle.c5_definitions.specs.Numerals.{is_digit, int_of_digits}
+use Rattle.c5_definitions.specs.Places.{found_or, table_in, key_in, row_name_in, int_in, rel_in, cell_in, cells_in, row_in, columns_of, of_whole_numbers, int_column_of, column_in, each_in}
+use Rattle.c5_definitions.specs.Statements.{Form, put, del, need, add, copy, put_statement, put_words, del_words, need_words, add_words, copy_words, statement_words, row_words, sum_words}
 use Rattle.c5_script.specs.declared.fault.LineError.{LineError}
 use Rattle.c5_script.specs.Partial.{with_statement}
 use Rattle.c5_script.specs.Taking.{StepsTo}
@@ -57,17 +58,17 @@ either : (b : Bool) (n k : ℕ) (r : Option ℕ) → cond b (Some n) r ≡ Some 
 either true n k r e = inl cc
 either false n k r e = inr e
 
-table_from-below : (n : ℕ) (name : List ℕ) (tables : List TableDef) (k : ℕ) → table_from n name tables ≡ Some k → k < n + length tables
-table_from-below n name [] k e = absurd cc
-table_from-below n name (table ∷ tables) k e = elim (either (bytes_eq table.name name) n k (table_from (n + 1) name tables) e) [
+table_number_from-below : (n : ℕ) (name : List ℕ) (tables : List TableDef) (k : ℕ) → table_number_from n name tables ≡ Some k → k < n + length tables
+table_number_from-below n name [] k e = absurd cc
+table_number_from-below n name (table ∷ tables) k e = elim (either (bytes_eq table.name name) n k (table_number_from (n + 1) name tables) e) [
   | inl same ↦ omega arith
-  | inr later ↦ let below = table_from-below (n + 1) name tables k later in omega arith
+  | inr later ↦ let below = table_number_from-below (n + 1) name tables k later in omega arith
 ]
 
 table_in-below : (tables : List TableDef) (word : Word) (n : ℕ) → table_in tables word ≡ Ok n → n < length tables
 unfolding table_in
 table_in-below tables (quoted text) n e = absurd cc
-table_in-below tables (bare name) n e = let below = table_from-below 0 name tables n (found_ok kinds.Table (table_from 0 name tables) n e) in omega arith
+table_in-below tables (bare name) n e = let below = table_number_from-below 0 name tables n (found_ok kinds.Table (table_number_from 0 name tables) n e) in omega arith
 
 name-below : (tables : List TableDef) (t k : Word) (name : RowName) → row_name_in tables t k ≡ Ok name → name.table < length tables
 unfolding row_name_in
@@ -95,7 +96,7 @@ column-int columns (bare []) c e = absurd cc
 column-int columns (bare (digit ∷ [])) c e = int_column columns (digit - 48) c (passed (is_digit digit) (int_column_of columns (digit - 48)) kinds.Column c e).1
 column-int columns (bare (digit ∷ other ∷ rest)) c e = absurd cc
 
-has_row : (tables : List TableDef) (n : ℕ) (row : List Cell) → n < length tables → map type_of row ≡ columns_of tables n → HasRow tables n row
+has_row : (tables : List TableDef) (n : ℕ) (row : List Cell) → n < length tables → map type_of row ≡ columns_of tables n → RowFits tables n row
 has_row [] n row h e = absurd (omega arith)
 has_row (table ∷ tables) zero row h e = e
 has_row (table ∷ tables) (suc n) row h e = has_row tables n row (omega arith) e
@@ -111,7 +112,7 @@ cell-type : (column : CellType) (word : Word) (cell : Cell) → cell_in column w
 unfolding cell_in
 cell-type types.Int (quoted text) cell e = absurd cc
 cell-type types.Int (bare bytes) cell e =
-    let n = bind_ok (found_or kinds.Number (number_of bytes)) (λ n. Ok (Int n)) cell e in
+    let n = bind_ok (found_or kinds.Number (int_of_digits bytes)) (λ n. Ok (Int n)) cell e in
     ap type_of (sym (ok_is (Int n.0) cell n.2))
 cell-type types.Text (quoted text) cell e =
     let t = bind_ok (or_cause kinds.Limit (checked_bytes 0 32 is_text_byte text)) (λ bytes. Ok (Txt bytes)) cell e in
@@ -140,9 +141,9 @@ row-types columns words row e =
 fits-as : (tables : List TableDef) (made statement : Statement) → StatementFits tables made → done made ≡ done statement → StatementFits tables statement
 fits-as tables made statement fits e = subst (StatementFits tables) (ok_is made statement e) fits
 
-put_of-fits : (tables : List TableDef) (t k : Word) (cells : List Word) (statement : Statement) → put_of tables t k cells ≡ Ok statement → StatementFits tables statement
-unfolding put_of
-put_of-fits tables t k cells statement e =
+put_statement-fits : (tables : List TableDef) (t k : Word) (cells : List Word) (statement : Statement) → put_statement tables t k cells ≡ Ok statement → StatementFits tables statement
+unfolding put_statement
+put_statement-fits tables t k cells statement e =
     let name = bind_ok (row_name_in tables t k) (λ (n : RowName). row_in (columns_of tables n.table) cells >>= λ row. Ok (Put n row)) statement e in
     let row = bind_ok (row_in (columns_of tables name.0.table) cells) (λ (r : List Cell). Ok (Put name.0 r)) statement name.2 in
     fits-as tables (Put name.0 row.0) statement (has_row tables name.0.table row.0 (name-below tables t k name.0 name.1) (row-types (columns_of tables name.0.table) cells row.0 row.1)) row.2
@@ -152,7 +153,7 @@ unfolding put_words
 put-fits tables [] statement e = absurd cc
 put-fits tables (t ∷ []) statement e = absurd cc
 put-fits tables (t ∷ k ∷ []) statement e = absurd cc
-put-fits tables (t ∷ k ∷ cell ∷ cells) statement e = put_of-fits tables t k (cell ∷ cells) statement e
+put-fits tables (t ∷ k ∷ cell ∷ cells) statement e = put_statement-fits tables t k (cell ∷ cells) statement e
 
 del-fits : (tables : List TableDef) (words : List Word) (statement : Statement) → del_words tables words ≡ Ok statement → StatementFits tables statement
 unfolding del_words
@@ -171,10 +172,10 @@ need-fits tables (t ∷ k ∷ []) statement e = absurd cc
 need-fits tables (t ∷ k ∷ col ∷ []) statement e = absurd cc
 need-fits tables (t ∷ k ∷ col ∷ rel ∷ []) statement e = absurd cc
 need-fits tables (t ∷ k ∷ col ∷ rel ∷ n ∷ []) statement e =
-    let name = bind_ok (row_name_in tables t k) (λ (m : RowName). column_in (columns_of tables m.table) col >>= λ c. rel_in rel >>= λ r. number_in n >>= λ x. Ok (Need m c r x)) statement e in
-    let column = bind_ok (column_in (columns_of tables name.0.table) col) (λ (c : ℕ). rel_in rel >>= λ r. number_in n >>= λ x. Ok (Need name.0 c r x)) statement name.2 in
-    let relation = bind_ok (rel_in rel) (λ r. number_in n >>= λ x. Ok (Need name.0 column.0 r x)) statement column.2 in
-    let number = bind_ok (number_in n) (λ x. Ok (Need name.0 column.0 relation.0 x)) statement relation.2 in
+    let name = bind_ok (row_name_in tables t k) (λ (m : RowName). column_in (columns_of tables m.table) col >>= λ c. rel_in rel >>= λ r. int_in n >>= λ x. Ok (Need m c r x)) statement e in
+    let column = bind_ok (column_in (columns_of tables name.0.table) col) (λ (c : ℕ). rel_in rel >>= λ r. int_in n >>= λ x. Ok (Need name.0 c r x)) statement name.2 in
+    let relation = bind_ok (rel_in rel) (λ r. int_in n >>= λ x. Ok (Need name.0 column.0 r x)) statement column.2 in
+    let number = bind_ok (int_in n) (λ x. Ok (Need name.0 column.0 relation.0 x)) statement relation.2 in
     fits-as tables (Need name.0 column.0 relation.0 number.0) statement (has_column tables name.0.table column.0 (name-below tables t k name.0 name.1) (column-int (columns_of tables name.0.table) col column.0 column.1)) number.2
 need-fits tables (t ∷ k ∷ col ∷ rel ∷ n ∷ a ∷ words) statement e = absurd cc
 
@@ -185,9 +186,9 @@ add-fits tables (t ∷ []) statement e = absurd cc
 add-fits tables (t ∷ k ∷ []) statement e = absurd cc
 add-fits tables (t ∷ k ∷ col ∷ []) statement e = absurd cc
 add-fits tables (t ∷ k ∷ col ∷ n ∷ []) statement e =
-    let name = bind_ok (row_name_in tables t k) (λ (m : RowName). column_in (columns_of tables m.table) col >>= λ c. number_in n >>= λ x. Ok (Add m c x)) statement e in
-    let column = bind_ok (column_in (columns_of tables name.0.table) col) (λ (c : ℕ). number_in n >>= λ x. Ok (Add name.0 c x)) statement name.2 in
-    let number = bind_ok (number_in n) (λ x. Ok (Add name.0 column.0 x)) statement column.2 in
+    let name = bind_ok (row_name_in tables t k) (λ (m : RowName). column_in (columns_of tables m.table) col >>= λ c. int_in n >>= λ x. Ok (Add m c x)) statement e in
+    let column = bind_ok (column_in (columns_of tables name.0.table) col) (λ (c : ℕ). int_in n >>= λ x. Ok (Add name.0 c x)) statement name.2 in
+    let number = bind_ok (int_in n) (λ x. Ok (Add name.0 column.0 x)) statement column.2 in
     fits-as tables (Add name.0 column.0 number.0) statement (has_column tables name.0.table column.0 (name-below tables t k name.0 name.1) (column-int (columns_of tables name.0.table) col column.0 column.1)) number.2
 add-fits tables (t ∷ k ∷ col ∷ n ∷ a ∷ words) statement e = absurd cc
 

@@ -8,3 +8,4 @@ pub mod WordLaws
 pub mod Shapes
 pub mod FitsLines
 pub mod Different
+pub mod Excesses

@@ -13,21 +13,21 @@ use Rattle.c5_script.specs.declared.fault.LineError.TheVariants as errors
 use Rattle.c5_script.specs.declared.parsing.ParseFault.{ParseFault}
 use Rattle.c5_script.specs.declared.parsing.ParseFault.TheVariants as faults
 use Rattle.c5_script.specs.Taking.{Fails}
-use Rattle.c5_script.specs.Parsing.{ParseFails, fault_of}
+use Rattle.c5_script.specs.Parsing.{ParseFails, parse_fault_on}
 
 -- ---- one line
 
 -- a line that fails a test has a fault
-line_fails : {Y : Type 0} (number : ℕ) (error : LineError) (read : Result Y ScriptKind) → Fails error read → ParseFails (fault_of number error) (on_line number read)
+line_fails : {Y : Type 0} (number : ℕ) (error : LineError) (read : Result Y ScriptKind) → Fails error read → ParseFails (parse_fault_on number error) (on_line number read)
 line_fails number (errors.Fault kind) read h = ap (on_line number) h
 line_fails number errors.NoMemory read h = tt
 
-pub words_fail : {X Y : Type 0} (number : ℕ) (error : LineError) (words : Result X ScriptKind) (f : X → Result Y ScriptKind) → Fails error words → ParseFails (fault_of number error) (on_line number (words >>= f))
+pub words_fail : {X Y : Type 0} (number : ℕ) (error : LineError) (words : Result X ScriptKind) (f : X → Result Y ScriptKind) → Fails error words → ParseFails (parse_fault_on number error) (on_line number (words >>= f))
 words_fail number (errors.Fault kind) words f h = ap (λ w. on_line number (w >>= f)) h
 words_fail number errors.NoMemory words f h = tt
 
-pub step_fails : {X Y : Type 0} (number : ℕ) (error : LineError) (words : Result X ScriptKind) (held : X) (f : X → Result Y ScriptKind) → words ≡ Ok held → Fails error (f held) → ParseFails (fault_of number error) (on_line number (words >>= f))
-step_fails number error words held f e h = subst (λ w. ParseFails (fault_of number error) (on_line number (w >>= f))) (sym e) (line_fails number error (f held) h)
+pub step_fails : {X Y : Type 0} (number : ℕ) (error : LineError) (words : Result X ScriptKind) (held : X) (f : X → Result Y ScriptKind) → words ≡ Ok held → Fails error (f held) → ParseFails (parse_fault_on number error) (on_line number (words >>= f))
+step_fails number error words held f e h = subst (λ w. ParseFails (parse_fault_on number error) (on_line number (w >>= f))) (sym e) (line_fails number error (f held) h)
 
 -- ---- all lines
 

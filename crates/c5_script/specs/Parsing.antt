@@ -17,6 +17,6 @@ ParsesTo view (Ok x) read = read ≡ Ok (view x)
 ParsesTo view (Err fault) read = ParseFails fault read
 
 -- why a line of this number was not taken
-abbrev pub fault_of : ℕ → LineError → ParseFault
-fault_of number (errors.Fault kind) = faults.Bad (record { line = number; kind = kind })
-fault_of number errors.NoMemory = faults.NoMemory
+abbrev pub parse_fault_on : ℕ → LineError → ParseFault
+parse_fault_on number (errors.Fault kind) = faults.Bad (record { line = number; kind = kind })
+parse_fault_on number errors.NoMemory = faults.NoMemory

@@ -1,5 +1,6 @@
 -- A script that is read in part, as it is held.
 use Rattle.std.specs.Prelude.{◌≤◌, ◌<◌, ℕ, List, [], ◌∷◌, ◌++◌, length, Option, Some, None, Result, Ok}
+use Rattle.c5_rows.specs.Sizes.{max_sessions, max_reads}
 use Rattle.c5_definitions.specs.declared.script.ReadLine.{ReadLine}
 use Rattle.c5_definitions.specs.declared.script.TurnWord.{TurnWord}
 use Rattle.c5_definitions.specs.declared.script.ScriptKind.{ScriptKind}
@@ -18,16 +19,16 @@ block_of (Opened session) = in_read session []
 block_of (Read read) = in_read read.session read.lines
 
 -- the script is there once a table stands
-abbrev pub so_far : Option ScriptParts → OpenBlock → ScriptSoFar
-so_far None block = record { tables = []; bodies = []; reads = []; turns = []; block = block_of block }
-so_far (Some script) block = record { tables = script.tables; bodies = script.bodies; reads = script.reads; turns = script.turns; block = block_of block }
+abbrev pub script_so_far : Option ScriptParts → OpenBlock → ScriptSoFar
+script_so_far None block = record { tables = []; bodies = []; reads = []; turns = []; block = block_of block }
+script_so_far (Some script) block = record { tables = script.tables; bodies = script.bodies; reads = script.reads; turns = script.turns; block = block_of block }
 
 -- an open read block can be closed: its session is one, it fits the tables, and there is room for it
 pub record FitsAsRead (script : ScriptParts) (session : ℕ) (lines : List ReadLine) : Type 0 where
   pub session_some : 1 ≤ session
-  pub session_at_most_sixteen : session ≤ 16
+  pub session_few : session ≤ max_sessions
   pub fits : ReadFits script.tables (record { session = session; lines = lines })
-  pub room : length script.reads < 256
+  pub room : length script.reads < max_reads
 
 -- what the open block has fits the script, which is there
 abbrev pub BlockFits : Option ScriptParts → OpenBlock → Type 0

@@ -13,8 +13,3 @@ Fails (errors.Fault kind) read = read ≡ Err kind
 abbrev pub StepsTo : {X Y : Type 0} → (X → Y) → Result X LineError → Result Y ScriptKind → Type 0
 StepsTo view (Ok x) read = read ≡ Ok (view x)
 StepsTo view (Err error) read = Fails error read
-
--- what a function returned, seen by view, is what reading gives
-abbrev pub Gives : {X Y : Type 0} → (X → Y) → Result X ScriptKind → Result Y ScriptKind → Type 0
-Gives view (Ok x) read = read ≡ Ok (view x)
-Gives view (Err kind) read = read ≡ Err kind

@@ -5,10 +5,10 @@ use Rattle.c5_script.specs.declared.word.Word.TheVariants.{Bare, Quoted}
 use Rattle.c5_definitions.specs.Words.{Word, bare, quoted}
 
 -- the word that is held
-abbrev pub word_of : HeldWord → Word
-word_of (Bare bytes) = bare bytes.now
-word_of (Quoted text) = quoted text.now
+abbrev pub held_word : HeldWord → Word
+held_word (Bare bytes) = bare bytes.now
+held_word (Quoted text) = quoted text.now
 
 -- the words that are held
-abbrev pub words_of : List HeldWord → List Word
-words_of words = map word_of words
+abbrev pub held_words : List HeldWord → List Word
+held_words words = map held_word words

@@ -1,10 +1,14 @@
 //! Read blocks.
 
+ghost use Rattle.std.specs.List.{AllByRecursion};
+ghost use Rattle.c5_rows.specs.Sizes.{max_sessions, max_read_lines};
+ghost use Rattle.c5_rows.specs.Bytes.{IsKey};
 ghost use Rattle.std.specs.Prelude.{◌≡◌, ◌≤◌, ◌<◌, ◌++◌, ◌∷◌, [], length, IfOk, OnOk, OnErr};
-ghost use Rattle.c5_definitions.specs.FitsScript.{IsRead};
+ghost use Rattle.c5_definitions.specs.FitsScript.{IsRead, IsReadLine};
 
+use crate::bodies::know_key;
 use c5_definitions::ReadLine;
-use c5_rows::NoMemory;
+use c5_rows::{Key, NoMemory};
 use std::alloc::Global;
 use std::marker::Model;
 
@@ -26,13 +30,32 @@ impl Model for ReadBlock {
     ghost invariant = { λ b. IsRead (record { session = b.session; lines = b.lines.items }) };
 }
 
+fn know_keys(keys: &[Key])
+    ensures { AllByRecursion IsKey keys.now }
+{
+    for key in keys {
+        know_key(key);
+    }
+}
+
+// What the types of its parts say of a line.
+fn know_line(line: &ReadLine)
+    ensures { IsReadLine line.now }
+{
+    match line {
+        ReadLine::OneRow { name } => know_key(&name.key),
+        ReadLine::SumOf { keys, .. } => know_keys(keys.as_slice()),
+    }
+}
+
 impl ReadBlock {
     /// The block of one line.
     pub fn new(alloc: Global, session: u32, first: ReadLine) -> Result<Self, NoMemory>
         requires least { 1 ≤ session }
-        requires most { session ≤ 16 }
+        requires most { session ≤ max_sessions }
         ensures { IfOk result (λ block. block ≡ record { session = session; lines = first ∷ [] }) }
     {
+        know_line(&first);
         let mut lines = Vec::with_capacity(alloc, 1)?;
         lines.push(first)?;
         Ok(ReadBlock { session, lines })
@@ -40,10 +63,11 @@ impl ReadBlock {
 
     /// Adds a line at the end. After `NoMemory` nothing has changed.
     pub fn push(&mut self, line: ReadLine) -> Result<(), NoMemory>
-        requires room { length self.old.lines < 16 }
+        requires room { length self.old.lines < max_read_lines }
         ensures ok { OnOk result (self.new ≡ record { session = self.old.session; lines = self.old.lines ++ line ∷ [] }) }
         ensures err { OnErr result (self.new ≡ self.old) }
     {
+        know_line(&line);
         self.lines.push(line)?;
         Ok(())
     }

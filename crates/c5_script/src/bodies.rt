@@ -2,6 +2,7 @@
 
 ghost use Rattle.std.specs.Prelude.{◌≡◌, ◌<◌, ◌++◌, ◌∷◌, [], length, IfOk, OnOk, OnErr};
 ghost use Rattle.std.specs.List.{AllByRecursion};
+ghost use Rattle.c5_rows.specs.Sizes.{max_statements};
 ghost use Rattle.c5_rows.specs.Bytes.{IsKey};
 ghost use Rattle.c5_definitions.specs.Lawful.{IsLawfulCell};
 ghost use Rattle.c5_definitions.specs.FitsScript.{IsStatement, IsBody};
@@ -30,7 +31,7 @@ impl Model for Body {
 }
 
 // What the type of a key says of it.
-fn know_key(key: &Key)
+pub(crate) fn know_key(key: &Key)
     ensures { IsKey key.now }
 {
     let _bytes = key.bytes();
@@ -97,7 +98,7 @@ impl Body {
 
     /// Adds a statement at the end. After `NoMemory` nothing has changed.
     pub fn push(&mut self, statement: Statement) -> Result<(), NoMemory>
-        requires room { length self.old < 256 }
+        requires room { length self.old < max_statements }
         ensures ok { OnOk result (self.new ≡ self.old ++ statement ∷ []) }
         ensures err { OnErr result (self.new ≡ self.old) }
     {

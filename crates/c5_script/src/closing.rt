@@ -2,9 +2,9 @@
 
 ghost use Rattle.std.specs.Prelude.{◌≡◌, Some};
 ghost use Rattle.c5_definitions.specs.Statements.{end_line};
-ghost use Rattle.c5_script.specs.Partial.{block_of, so_far, BlockFits};
+ghost use Rattle.c5_script.specs.Partial.{block_of, script_so_far, BlockFits};
 ghost use Rattle.c5_script.specs.Taking.{StepsTo};
-ghost use Rattle.c5_script.specs.Words.{words_of};
+ghost use Rattle.c5_script.specs.Words.{held_words};
 
 use crate::block::OpenBlock;
 use crate::blocks::ReadBlock;
@@ -17,7 +17,7 @@ use c5_definitions::ScriptKind;
 #[tactic(auto, unfolding(c5_definitions::specs::Statements::end_line))]
 fn close_txn(script: &mut Script, body: Body, words: &[Word]) -> Result<(), LineError>
     requires { BlockFits (Some script.old) (OpenBlock.Txn body) }
-    ensures { StepsTo (λ _. so_far (Some script.new) OpenBlock.Outside) result (end_line (block_of (OpenBlock.Txn body)) (so_far (Some script.old) (OpenBlock.Txn body)) (words_of words.now)) }
+    ensures { StepsTo (λ _. script_so_far (Some script.new) OpenBlock.Outside) result (end_line (block_of (OpenBlock.Txn body)) (script_so_far (Some script.old) (OpenBlock.Txn body)) (held_words words.now)) }
 {
     if !words.is_empty() {
         return Err(LineError::Fault(ScriptKind::Count));
@@ -29,7 +29,7 @@ fn close_txn(script: &mut Script, body: Body, words: &[Word]) -> Result<(), Line
 #[tactic(auto, unfolding(c5_definitions::specs::Statements::end_line))]
 fn close_read(script: &mut Script, read: ReadBlock, words: &[Word]) -> Result<(), LineError>
     requires { BlockFits (Some script.old) (OpenBlock.Read read) }
-    ensures { StepsTo (λ _. so_far (Some script.new) OpenBlock.Outside) result (end_line (block_of (OpenBlock.Read read)) (so_far (Some script.old) (OpenBlock.Read read)) (words_of words.now)) }
+    ensures { StepsTo (λ _. script_so_far (Some script.new) OpenBlock.Outside) result (end_line (block_of (OpenBlock.Read read)) (script_so_far (Some script.old) (OpenBlock.Read read)) (held_words words.now)) }
 {
     if !words.is_empty() {
         return Err(LineError::Fault(ScriptKind::Count));
@@ -42,7 +42,7 @@ fn close_read(script: &mut Script, read: ReadBlock, words: &[Word]) -> Result<()
 #[tactic(auto, unfolding(c5_definitions::specs::Statements::end_line))]
 pub(crate) fn close(script: &mut Script, block: OpenBlock, words: &[Word]) -> Result<(), LineError>
     requires { BlockFits (Some script.old) block }
-    ensures { StepsTo (λ _. so_far (Some script.new) OpenBlock.Outside) result (end_line (block_of block) (so_far (Some script.old) block) (words_of words.now)) }
+    ensures { StepsTo (λ _. script_so_far (Some script.new) OpenBlock.Outside) result (end_line (block_of block) (script_so_far (Some script.old) block) (held_words words.now)) }
 {
     match block {
         OpenBlock::Outside => Err(LineError::Fault(ScriptKind::Word)),

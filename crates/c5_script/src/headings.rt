@@ -1,13 +1,15 @@
 //! Lines outside blocks.
 
-ghost use Rattle.std.specs.Prelude.{◌≡◌, ◌≤◌, ◌<◌, ◌++◌, ◌∷◌, [], None, Some, IsTrue, length, IfOk, OnOk};
-ghost use Rattle.c5_rows.specs.Tables.{table_of as number_of};
+ghost use Rattle.std.specs.Prelude.{◌+◌, ◌≡◌, ◌≤◌, ◌<◌, ◌++◌, ◌∷◌, [], None, Some, IsTrue, length, IfOk, OnOk};
+ghost use Rattle.c5_rows.specs.Sizes.{max_columns, max_tables, max_sessions, max_reads, max_statements, max_turn_words};
+ghost use Rattle.c5_rows.specs.Tables.{table_number};
 ghost use Rattle.c5_definitions.specs.ScriptSoFar.{in_txn, in_read, is_heading};
 ghost use Rattle.c5_definitions.specs.Places.{turn_in, each_in};
-ghost use Rattle.c5_definitions.specs.Statements.{table_of, table_words, table_line, heading_line, outside_line, txn_words, read_words, read_line, turns_words, turns_line, standing_line};
-ghost use Rattle.c5_script.specs.Partial.{so_far, with_turns, BlockFits};
-ghost use Rattle.c5_script.specs.Taking.{Gives, StepsTo};
-ghost use Rattle.c5_script.specs.Words.{word_of, words_of};
+ghost use Rattle.c5_definitions.specs.Statements.{new_table, table_words, table_line, heading_line, outside_line, txn_words, read_words, read_line, turns_words, turns_line, standing_line};
+ghost use Rattle.c5_script.specs.Partial.{script_so_far, with_turns, BlockFits};
+ghost use Rattle.c5_script.specs.Taking.{StepsTo};
+ghost use Rattle.c5_definitions.specs.Steps.{Gives};
+ghost use Rattle.c5_script.specs.Words.{held_word, held_words};
 
 use crate::block::OpenBlock;
 use crate::bodies::Body;
@@ -17,25 +19,19 @@ use crate::places::{new_name, session, turn};
 use crate::script::Script;
 use crate::word::Word;
 use c5_definitions::ScriptKind;
-use c5_rows::{Schema, TableDef};
+use c5_rows::{MAX_COLUMNS, MAX_READS, MAX_TABLES, MAX_TURN_WORDS, Schema, TableDef};
 use std::alloc::Global;
 
-/// How many tables a script has at most.
-const MOST_TABLES: usize = 16;
+/// The most words of a table's line after its first one: the name and the types.
+const MAX_TABLE_WORDS: usize = 1 + MAX_COLUMNS;
 
-/// How many words the line of a table has at most behind its first one: its name and 8 types.
-const MOST_TABLE_WORDS: usize = 9;
-
-/// How many read blocks a script has at most.
-const MOST_READS: usize = 256;
-
-#[tactic(auto, unfolding(c5_definitions::specs::Statements::table_of))]
+#[tactic(auto, unfolding(c5_definitions::specs::Statements::new_table))]
 fn table_of(tables: &[TableDef], word: Word, types: &[Word]) -> Result<TableDef, ScriptKind>
-    requires tables { length tables.now ≤ 16 }
+    requires tables { length tables.now ≤ max_tables }
     requires some { 1 ≤ length types.now }
-    requires at_most_eight { length types.now ≤ 8 }
-    ensures value { result ≡ table_of tables.now (word_of word.entry) (words_of types.now) }
-    ensures new { IfOk result (λ table. number_of table.name tables.now ≡ None) }
+    requires few { length types.now ≤ max_columns }
+    ensures value { result ≡ new_table tables.now (held_word word.entry) (held_words types.now) }
+    ensures new { IfOk result (λ table. table_number table.name tables.now ≡ None) }
 {
     let name = new_name(tables, word)?;
     let columns = column_types(types)?;
@@ -44,10 +40,10 @@ fn table_of(tables: &[TableDef], word: Word, types: &[Word]) -> Result<TableDef,
 
 #[tactic(auto, unfolding(c5_definitions::specs::Statements::table_words))]
 fn table_in(tables: &[TableDef], words: &[Word]) -> Result<TableDef, ScriptKind>
-    requires tables { length tables.now ≤ 16 }
-    requires few { length words.now ≤ 9 }
-    ensures value { result ≡ table_words tables.now (words_of words.now) }
-    ensures new { IfOk result (λ table. number_of table.name tables.now ≡ None) }
+    requires tables { length tables.now ≤ max_tables }
+    requires few { length words.now ≤ 1 + max_columns }
+    ensures value { result ≡ table_words tables.now (held_words words.now) }
+    ensures new { IfOk result (λ table. table_number table.name tables.now ≡ None) }
 {
     match words {
         [] | [_] => Err(ScriptKind::Count),
@@ -58,12 +54,12 @@ fn table_in(tables: &[TableDef], words: &[Word]) -> Result<TableDef, ScriptKind>
 /// The table of a line, which is added to these.
 #[tactic(auto, unfolding(c5_definitions::specs::Statements::table_line))]
 pub(crate) fn new_table(tables: &[TableDef], words: &[Word]) -> Result<TableDef, ScriptKind>
-    requires { length tables.now ≤ 16 }
-    ensures value { result ≡ table_line tables.now (words_of words.now) }
-    ensures new { IfOk result (λ table. number_of table.name tables.now ≡ None) }
-    ensures room { OnOk result (length tables.now < 16) }
+    requires { length tables.now ≤ max_tables }
+    ensures value { result ≡ table_line tables.now (held_words words.now) }
+    ensures new { IfOk result (λ table. table_number table.name tables.now ≡ None) }
+    ensures room { OnOk result (length tables.now < max_tables) }
 {
-    if tables.len() >= MOST_TABLES || words.len() > MOST_TABLE_WORDS {
+    if tables.len() >= MAX_TABLES || words.len() > MAX_TABLE_WORDS {
         return Err(ScriptKind::Limit);
     }
     table_in(tables, words)
@@ -72,7 +68,7 @@ pub(crate) fn new_table(tables: &[TableDef], words: &[Word]) -> Result<TableDef,
 // Whether a line may open a transaction.
 #[tactic(auto, unfolding(c5_definitions::specs::Statements::txn_words))]
 fn check_txn(words: &[Word]) -> Result<(), ScriptKind>
-    ensures { Gives (λ _. in_txn []) result (txn_words (words_of words.now)) }
+    ensures { Gives (λ _. in_txn []) result (txn_words (held_words words.now)) }
 {
     match words {
         [] => Ok(()),
@@ -82,8 +78,8 @@ fn check_txn(words: &[Word]) -> Result<(), ScriptKind>
 
 #[tactic(auto, unfolding(c5_definitions::specs::Statements::read_words))]
 fn read_of(words: &[Word]) -> Result<u32, ScriptKind>
-    ensures read { Gives (λ session. in_read session []) result (read_words (words_of words.now)) }
-    ensures session { IfOk result (λ session. (1 ≤ session) × (session ≤ 16)) }
+    ensures read { Gives (λ session. in_read session []) result (read_words (held_words words.now)) }
+    ensures session { IfOk result (λ session. (1 ≤ session) × (session ≤ max_sessions)) }
 {
     match words {
         [word] => session(*word),
@@ -94,21 +90,19 @@ fn read_of(words: &[Word]) -> Result<u32, ScriptKind>
 /// The session of a read block that a line opens behind `count` others.
 #[tactic(auto, unfolding(c5_definitions::specs::Statements::read_line))]
 pub(crate) fn new_read(count: usize, words: &[Word]) -> Result<u32, ScriptKind>
-    ensures read { Gives (λ session. in_read session []) result (read_line count (words_of words.now)) }
-    ensures session { IfOk result (λ session. (1 ≤ session) × (session ≤ 16)) }
-    ensures room { OnOk result (count < 256) }
+    ensures read { Gives (λ session. in_read session []) result (read_line count (held_words words.now)) }
+    ensures session { IfOk result (λ session. (1 ≤ session) × (session ≤ max_sessions)) }
+    ensures room { OnOk result (count < max_reads) }
 {
-    if count >= MOST_READS {
+    if count >= MAX_READS {
         return Err(ScriptKind::Limit);
     }
     read_of(words)
 }
 
-/// How many turn words a script has at most.
-const MOST_TURNS: usize = 65536;
-
 fn push_turns(script: &mut Script, words: &[Word]) -> Result<(), LineError>
-    ensures { StepsTo (λ _. script.new) result (with_turns script.old (each_in turn_in (words_of words.now))) }
+    requires room { length script.old.turns + length words.now ≤ max_turn_words }
+    ensures { StepsTo (λ _. script.new) result (with_turns script.old (each_in turn_in (held_words words.now))) }
 {
     for word in words {
         let turn = turn(*word)?;
@@ -119,7 +113,8 @@ fn push_turns(script: &mut Script, words: &[Word]) -> Result<(), LineError>
 
 #[tactic(auto, unfolding(c5_definitions::specs::Statements::turns_words))]
 fn turns_in(script: &mut Script, words: &[Word]) -> Result<(), LineError>
-    ensures { StepsTo (λ _. script.new) result (with_turns script.old (turns_words (words_of words.now))) }
+    requires room { length script.old.turns + length words.now ≤ max_turn_words }
+    ensures { StepsTo (λ _. script.new) result (with_turns script.old (turns_words (held_words words.now))) }
 {
     match words {
         [] => Err(LineError::Fault(ScriptKind::Count)),
@@ -130,9 +125,9 @@ fn turns_in(script: &mut Script, words: &[Word]) -> Result<(), LineError>
 /// Adds the words of a line to the schedule.
 #[tactic(auto, unfolding(c5_definitions::specs::Statements::turns_line))]
 pub(crate) fn add_turns(script: &mut Script, words: &[Word]) -> Result<(), LineError>
-    ensures { StepsTo (λ _. script.new) result (with_turns script.old (turns_line (length script.old.turns) (words_of words.now))) }
+    ensures { StepsTo (λ _. script.new) result (with_turns script.old (turns_line (length script.old.turns) (held_words words.now))) }
 {
-    if script.turns().len() + words.len() > MOST_TURNS {
+    if script.turns().len() + words.len() > MAX_TURN_WORDS {
         return Err(LineError::Fault(ScriptKind::Limit));
     }
     turns_in(script, words)
@@ -140,7 +135,7 @@ pub(crate) fn add_turns(script: &mut Script, words: &[Word]) -> Result<(), LineE
 
 // How many statements the transaction before has: a guess for the next one, which then has its memory at once.
 fn statements_before(script: &Script) -> usize
-    ensures { result ≤ 256 }
+    ensures { result ≤ max_statements }
 {
     match script.bodies().last() {
         Some(body) => body.statements().len(),
@@ -158,7 +153,7 @@ pub(crate) fn add_standing(
     words: &[Word],
 ) -> Result<(), LineError>
     requires { block.old ≡ OpenBlock.Outside }
-    ensures step { StepsTo (λ _. so_far (Some script.new) block.new) result (standing_line (so_far (Some script.old) block.old) first.now (words_of words.now)) }
+    ensures step { StepsTo (λ _. script_so_far (Some script.new) block.new) result (standing_line (script_so_far (Some script.old) block.old) first.now (held_words words.now)) }
     ensures fits { BlockFits (Some script.new) block.new }
 {
     if first == b"txn".as_slice() {
@@ -179,8 +174,8 @@ pub(crate) fn add_standing(
 
 // The tables so far.
 fn tables_of(script: &Option<Script>) -> &[TableDef]
-    ensures value { result.now ≡ (so_far script.now OpenBlock.Outside).tables }
-    ensures few { length result.now ≤ 16 }
+    ensures value { result.now ≡ (script_so_far script.now OpenBlock.Outside).tables }
+    ensures few { length result.now ≤ max_tables }
 {
     match script {
         Some(script) => script.schema().tables(),
@@ -190,7 +185,7 @@ fn tables_of(script: &Option<Script>) -> &[TableDef]
 
 // Whether no transaction, read block or schedule was accepted.
 fn is_heading(script: &Option<Script>) -> bool
-    ensures { result ≡ is_heading (so_far script.now OpenBlock.Outside) }
+    ensures { result ≡ is_heading (script_so_far script.now OpenBlock.Outside) }
 {
     match script {
         Some(script) => {
@@ -202,10 +197,10 @@ fn is_heading(script: &Option<Script>) -> bool
 
 // Adds a table.
 fn push_table(alloc: Global, script: &mut Option<Script>, table: TableDef)
-    requires heading { IsTrue (is_heading (so_far script.old OpenBlock.Outside)) }
-    requires room { length (so_far script.old OpenBlock.Outside).tables < 16 }
-    requires new { number_of table.name (so_far script.old OpenBlock.Outside).tables ≡ None }
-    ensures { so_far script.new OpenBlock.Outside ≡ record (so_far script.old OpenBlock.Outside) { tables = (so_far script.old OpenBlock.Outside).tables ++ table ∷ [] } }
+    requires heading { IsTrue (is_heading (script_so_far script.old OpenBlock.Outside)) }
+    requires room { length (script_so_far script.old OpenBlock.Outside).tables < max_tables }
+    requires new { table_number table.name (script_so_far script.old OpenBlock.Outside).tables ≡ None }
+    ensures { script_so_far script.new OpenBlock.Outside ≡ record (script_so_far script.old OpenBlock.Outside) { tables = (script_so_far script.old OpenBlock.Outside).tables ++ table ∷ [] } }
 {
     match script {
         Some(script) => script.push_table(table),
@@ -215,8 +210,8 @@ fn push_table(alloc: Global, script: &mut Option<Script>, table: TableDef)
 
 #[tactic(auto, unfolding(c5_definitions::specs::Statements::heading_line))]
 fn add_table(alloc: Global, script: &mut Option<Script>, words: &[Word]) -> Result<(), LineError>
-    requires { IsTrue (is_heading (so_far script.old OpenBlock.Outside)) }
-    ensures { StepsTo (λ _. so_far script.new OpenBlock.Outside) result (heading_line (so_far script.old OpenBlock.Outside) (words_of words.now)) }
+    requires { IsTrue (is_heading (script_so_far script.old OpenBlock.Outside)) }
+    ensures { StepsTo (λ _. script_so_far script.new OpenBlock.Outside) result (heading_line (script_so_far script.old OpenBlock.Outside) (held_words words.now)) }
 {
     let table = new_table(tables_of(script), words)?;
     push_table(alloc, script, table);
@@ -233,7 +228,7 @@ pub(crate) fn add_outside(
     words: &[Word],
 ) -> Result<(), LineError>
     requires { block.old ≡ OpenBlock.Outside }
-    ensures step { StepsTo (λ _. so_far script.new block.new) result (outside_line (so_far script.old OpenBlock.Outside) first.now (words_of words.now)) }
+    ensures step { StepsTo (λ _. script_so_far script.new block.new) result (outside_line (script_so_far script.old OpenBlock.Outside) first.now (held_words words.now)) }
     ensures fits { BlockFits script.new block.new }
 {
     if first == b"table".as_slice() && is_heading(script) {

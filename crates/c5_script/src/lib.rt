@@ -26,7 +26,6 @@ pub use blocks::ReadBlock;
 pub use bodies::Body;
 pub use c5_definitions::{Keys, ReadLine, Rel, ScriptFault, ScriptKind, Statement, TurnWord};
 pub use front_parsing::{Front, parse_front};
-pub use limits::{MOST_ROWS, MOST_TRANSACTIONS, MOST_WRITES, OverFault};
 pub use parsing::{ParseFault, parse};
 pub use script::Script;
 

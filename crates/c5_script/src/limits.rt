@@ -4,38 +4,17 @@ ghost use Rattle.std.specs.Prelude.{◌≡◌, ◌≤◌, ◌<◌, ◌||◌, ◌
 ghost use Rattle.std.specs.List.{filter_map};
 ghost use Rattle.std.specs.Set.{distinct_count};
 ghost use Rattle.std.specs.Ordering.{eq_by_cmp};
+ghost use Rattle.c5_rows.specs.Sizes.{max_transactions};
 ghost use Rattle.c5_rows.specs.Order.{row_name_cmp};
 ghost use Rattle.c5_script.specs.Rows.{is_row};
 ghost use Rattle.c5_rows.specs.declared.writes.RowName.{RowName};
-ghost use Rattle.c5_definitions.specs.Limits.{written_name, written_names, write_statements, written_rows, AreWithinLimits};
+ghost use Rattle.c5_definitions.specs.Limits.{written_name, written_names, write_statements, written_rows, excess_of};
 
 use crate::bodies::Body;
 use crate::script::Script;
-use c5_definitions::Statement;
-use c5_rows::{NoMemory, RowName};
+use c5_definitions::{Excess, Statement};
+use c5_rows::{MAX_ROWS, MAX_TRANSACTIONS, MAX_WRITES, NoMemory, RowName};
 use std::alloc::Global;
-
-/// How many transactions a script may have.
-pub const MOST_TRANSACTIONS: usize = 65_536;
-
-/// How many of its statements may write.
-pub const MOST_WRITES: usize = 262_144;
-
-/// How many different rows they may write.
-pub const MOST_ROWS: usize = 65_536;
-
-/// Which limit a script passes.
-#[derive(Clone, Copy, Debug, PartialEq, Eq)]
-pub enum OverFault {
-    /// There are more than 65,536 bodies.
-    Transactions,
-    /// More than 262,144 statements write.
-    Writes,
-    /// They write more than 65,536 different rows.
-    Rows,
-    /// Memory was refused while the rows were counted.
-    NoMemory,
-}
 
 // The name of the row that a statement writes.
 fn written_by(statement: &Statement) -> Option<RowName>
@@ -66,7 +45,7 @@ fn writes_of(statements: &[Statement]) -> usize
 
 // How many statements of all bodies write.
 fn writes_in(bodies: &[Body]) -> usize
-    requires { length bodies.now ≤ 65536 }
+    requires { length bodies.now ≤ max_transactions }
     ensures { result ≡ write_statements bodies.now }
 {
     let mut count = 0;
@@ -167,37 +146,30 @@ fn different(names: Vec<RowName>) -> usize
 }
 
 impl Script {
-    /// Whether the script is within the limits. The first that it passes is told, in the order of `OverFault`.
-    pub fn check_limits(&self, alloc: Global) -> Result<(), OverFault>
-        ensures transactions { (result ≡ Err OverFault.Transactions) ↔ (65536 < length self.now.bodies) }
-        ensures writes { (result ≡ Err OverFault.Writes) ↔ ((length self.now.bodies ≤ 65536) × (262144 < write_statements self.now.bodies)) }
-        ensures rows { result ≡ Err OverFault.Rows → (length self.now.bodies ≤ 65536) × (write_statements self.now.bodies ≤ 262144) × (65536 < written_rows self.now.bodies) }
-        ensures ok { OnOk result (AreWithinLimits self.now.bodies) }
+    /// The first limit that the script exceeds, in the order of `Excess`; `None` if it exceeds none.
+    pub fn check_limits(&self, alloc: Global) -> Result<Option<Excess>, NoMemory>
+        ensures { IfOk result (λ excess. excess ≡ excess_of self.now) }
     {
         let bodies = self.bodies();
-        if bodies.len() > MOST_TRANSACTIONS {
-            return Err(OverFault::Transactions);
+        if bodies.len() > MAX_TRANSACTIONS {
+            return Ok(Some(Excess::Transactions));
         }
         let count = writes_in(bodies);
-        if count > MOST_WRITES {
-            return Err(OverFault::Writes);
+        if count > MAX_WRITES {
+            return Ok(Some(Excess::Writes));
         }
         // There are no more rows than writes.
-        if count <= MOST_ROWS {
-            return Ok(());
+        if count <= MAX_ROWS {
+            return Ok(None);
         }
-        match names_in(alloc, bodies, count) {
-            Ok(names) => {
-                // There are no more rows than names.
-                if names.len() <= MOST_ROWS {
-                    return Ok(());
-                }
-                if different(names) > MOST_ROWS {
-                    return Err(OverFault::Rows);
-                }
-                Ok(())
-            }
-            Err(NoMemory) => Err(OverFault::NoMemory),
+        let names = names_in(alloc, bodies, count)?;
+        // There are no more rows than names.
+        if names.len() <= MAX_ROWS {
+            return Ok(None);
         }
+        if different(names) > MAX_ROWS {
+            return Ok(Some(Excess::Rows));
+        }
+        Ok(None)
     }
 }

@@ -1,22 +1,23 @@
 //! Words that stand one behind the other, tested from left to right.
 
 ghost use Rattle.std.specs.Prelude.{◌≡◌, ◌≤◌, ◌<◌, ◌∷◌, length};
+ghost use Rattle.c5_rows.specs.Sizes.{max_columns, max_sum_keys};
 ghost use Rattle.c5_definitions.specs.Places.{type_in, key_in, each_in, row_in};
-ghost use Rattle.c5_script.specs.Taking.{Gives};
-ghost use Rattle.c5_script.specs.Words.{word_of, words_of};
+ghost use Rattle.c5_definitions.specs.Steps.{Gives};
+ghost use Rattle.c5_script.specs.Words.{held_word, held_words};
 
 use crate::places::{cell, column_type, key};
 use crate::word::Word;
 use c5_definitions::{Keys, ScriptKind};
-use c5_rows::{CellType, Columns, Row};
+use c5_rows::{CellType, Columns, MAX_COLUMNS, Row};
 
 /// The types of the columns of a table.
 pub(crate) fn column_types(words: &[Word]) -> Result<Columns, ScriptKind>
     requires some { 1 ≤ length words.now }
-    requires at_most_eight { length words.now ≤ 8 }
-    ensures { result ≡ each_in type_in (words_of words.now) }
+    requires few { length words.now ≤ max_columns }
+    ensures { result ≡ each_in type_in (held_words words.now) }
 {
-    let mut types = [CellType::Int; 8];
+    let mut types = [CellType::Int; MAX_COLUMNS];
     for (column, word) in words.iter().enumerate() {
         let found = column_type(*word)?;
         types[column] = found;
@@ -29,8 +30,8 @@ pub(crate) fn column_types(words: &[Word]) -> Result<Columns, ScriptKind>
 
 /// The keys of a sum.
 pub(crate) fn keys(first: Word, others: &[Word]) -> Result<Keys, ScriptKind>
-    requires { length others.now < 16 }
-    ensures { result ≡ each_in key_in (word_of first.entry ∷ words_of others.now) }
+    requires { length others.now < max_sum_keys }
+    ensures { result ≡ each_in key_in (held_word first.entry ∷ held_words others.now) }
 {
     let first_key = key(first)?;
     let mut keys = Keys::one(first_key);
@@ -49,8 +50,8 @@ pub(crate) fn read_row(
     words: &[Word],
 ) -> Result<(), ScriptKind>
     requires some { 1 ≤ length words.now }
-    requires at_most_eight { length columns.now ≤ 8 }
-    ensures { Gives (λ _. row.new) result (row_in columns.now (words_of words.now)) }
+    requires few { length columns.now ≤ max_columns }
+    ensures { Gives (λ _. row.new) result (row_in columns.now (held_words words.now)) }
 {
     if words.len() != columns.len() {
         return Err(ScriptKind::Count);

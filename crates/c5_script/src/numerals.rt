@@ -1,8 +1,9 @@
 //! Numbers that are written in words.
 
-ghost use Rattle.std.specs.Prelude.{◌≡◌, ◌≤◌, length, IsTrue};
+ghost use Rattle.std.specs.Prelude.{◌≡◌, ◌≤◌, length, IfSome, IsTrue};
 ghost use Rattle.std.specs.List.{list_all};
-ghost use Rattle.c5_definitions.specs.Numerals.{is_digit, digits_after, magnitude_of, as_positive, as_negative, number_of, turn_number_of};
+ghost use Rattle.c5_rows.specs.Sizes.{max_workers, max_sessions};
+ghost use Rattle.c5_definitions.specs.Numerals.{is_digit, digits_after, magnitude_of, as_positive, as_negative, int_of_digits, turn_number_of};
 
 fn are_digits(bytes: &[u8]) -> bool
     ensures { result ≡ list_all is_digit bytes.now }
@@ -48,9 +49,9 @@ fn negative(n: u64) -> Option<i64>
 
 /// The number that an optional minus and 1 to 19 digits write. `None` exactly where `bytes` are
 /// nothing of the kind, or the number has more than 64 bits with its sign.
-#[tactic(auto, unfolding(c5_definitions::specs::Numerals::number_of))]
+#[tactic(auto, unfolding(c5_definitions::specs::Numerals::int_of_digits))]
 pub(crate) fn number_of(bytes: &[u8]) -> Option<i64>
-    ensures { result ≡ number_of bytes.now }
+    ensures { result ≡ int_of_digits bytes.now }
 {
     match bytes {
         [] => None,
@@ -62,7 +63,8 @@ pub(crate) fn number_of(bytes: &[u8]) -> Option<i64>
 /// The number from 1 to 16 that one or two digits write, the first of them not 0.
 #[tactic(auto, unfolding(c5_definitions::specs::Numerals::turn_number_of))]
 pub(crate) fn turn_number_of(digits: &[u8]) -> Option<u32>
-    ensures { result ≡ turn_number_of digits.now }
+    ensures value { result ≡ turn_number_of digits.now }
+    ensures range { IfSome result (λ n. (1 ≤ n) × (n ≤ max_workers) × (n ≤ max_sessions)) }
 {
     match digits {
         [digit] if *digit >= b'1' && *digit <= b'9' => Some(u32::from(*digit - b'0')),

@@ -26,11 +26,11 @@ pub enum ParseFault {
 }
 
 impl ParseFault {
-    ghost use Rattle.c5_script.specs.Parsing.{fault_of};
+    ghost use Rattle.c5_script.specs.Parsing.{parse_fault_on};
 
     // Why a line of this number was not taken.
     pub(crate) fn on_line(line: u32, error: LineError) -> Self
-        ensures { result ≡ fault_of line error }
+        ensures { result ≡ parse_fault_on line error }
     {
         match error {
             LineError::Fault(kind) => ParseFault::Bad(ScriptFault { line, kind }),

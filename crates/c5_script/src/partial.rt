@@ -3,8 +3,8 @@
 ghost use Rattle.std.specs.Prelude.{◌≡◌, Ok, IsTrue, Some, None, if◌then◌else◌};
 ghost use Rattle.c5_definitions.specs.ScriptSoFar.{script_start, parts_of, is_closed, is_outside, has_table};
 ghost use Rattle.c5_definitions.specs.Statements.{end_line, known_line, after_line, is_log_line, after_front_line};
-ghost use Rattle.c5_script.specs.Partial.{block_of, so_far, BlockFits};
-ghost use Rattle.c5_script.specs.Words.{words_of};
+ghost use Rattle.c5_script.specs.Partial.{block_of, script_so_far, BlockFits};
+ghost use Rattle.c5_script.specs.Words.{held_words};
 ghost use Rattle.c5_script.specs.Taking.{StepsTo};
 
 use crate::block::OpenBlock;
@@ -30,11 +30,11 @@ pub(crate) struct PartialScript {
 
 impl Model for PartialScript {
     ghost use Rattle.c5_definitions.specs.ScriptSoFar.{ScriptSoFar};
-    ghost use Rattle.c5_script.specs.Partial.{so_far, BlockFits};
+    ghost use Rattle.c5_script.specs.Partial.{script_so_far, BlockFits};
 
     ghost Value = { ScriptSoFar };
 
-    ghost view = { λ p. so_far p.script p.block };
+    ghost view = { λ p. script_so_far p.script p.block };
 
     ghost invariant = { λ p. BlockFits p.script p.block };
 }
@@ -55,7 +55,7 @@ fn is_outside(block: &OpenBlock) -> bool
 }
 
 fn has_table(script: &Option<Script>) -> bool
-    ensures { result ≡ has_table (so_far script.now OpenBlock.Outside) }
+    ensures { result ≡ has_table (script_so_far script.now OpenBlock.Outside) }
 {
     match script {
         Some(script) => !script.schema().tables().is_empty(),
@@ -70,7 +70,7 @@ fn add_end(
     words: &[Word],
 ) -> Result<(), LineError>
     requires { BlockFits script.old block.old }
-    ensures step { StepsTo (λ _. so_far script.new block.new) result (end_line (block_of block.old) (so_far script.old block.old) (words_of words.now)) }
+    ensures step { StepsTo (λ _. script_so_far script.new block.new) result (end_line (block_of block.old) (script_so_far script.old block.old) (held_words words.now)) }
     ensures fits { BlockFits script.new block.new }
 {
     let open = mem::replace(block, OpenBlock::Outside);
@@ -89,7 +89,7 @@ fn add_known(
     words: &[Word],
 ) -> Result<(), LineError>
     requires { BlockFits script.old block.old }
-    ensures step { StepsTo (λ _. so_far script.new block.new) result (known_line (so_far script.old block.old) first.now (words_of words.now)) }
+    ensures step { StepsTo (λ _. script_so_far script.new block.new) result (known_line (script_so_far script.old block.old) first.now (held_words words.now)) }
     ensures fits { BlockFits script.new block.new }
 {
     if first == b"end".as_slice() {
@@ -122,7 +122,7 @@ impl PartialScript {
     /// What has been read after an `Err` isn't said.
     #[tactic(auto, unfolding(c5_definitions::specs::Statements::after_line))]
     pub(crate) fn take_line(&mut self, words: &[Word]) -> Result<(), LineError>
-        ensures { StepsTo (λ _. self.new) result (after_line self.old (words_of words.now)) }
+        ensures { StepsTo (λ _. self.new) result (after_line self.old (held_words words.now)) }
     {
         match words {
             [] => Ok(()),
@@ -134,7 +134,7 @@ impl PartialScript {
     }
 
     fn is_log_line(&self, words: &[Word]) -> bool
-        ensures { result ≡ is_log_line self.now (words_of words.now) }
+        ensures { result ≡ is_log_line self.now (held_words words.now) }
     {
         match words {
             [Word::Bare(first), ..] if *first == b"log".as_slice() => {
@@ -148,7 +148,7 @@ impl PartialScript {
     /// with the kind of the first. What has been read after an `Err` isn't said.
     #[tactic(auto, unfolding(c5_definitions::specs::Statements::after_front_line, c5_definitions::specs::Statements::log_line))]
     pub(crate) fn take_front_line(&mut self, words: &[Word]) -> Result<Taken, LineError>
-        ensures step { StepsTo (front_line_of self.new) result (after_front_line self.old (words_of words.now)) }
+        ensures step { StepsTo (front_line_of self.new) result (after_front_line self.old (held_words words.now)) }
         ensures log { result ≡ Ok Taken.Log → self.new ≡ self.old }
     {
         if self.is_log_line(words) {

@@ -1,45 +1,26 @@
 //! The test of a word by its place on the line.
 
 ghost use Rattle.std.specs.Prelude.{◌≡◌, ◌≤◌, None, length, IfOk};
-ghost use Rattle.std.specs.Str.{bytes_eq};
+ghost use Rattle.c5_definitions.specs.FitsScript.{IsTurn};
+ghost use Rattle.c5_rows.specs.Sizes.{max_columns, max_tables, max_sessions, max_workers};
 ghost use Rattle.c5_definitions.specs.Numerals.{turn_number_of};
-ghost use Rattle.c5_rows.specs.Tables.{IsSchema, table_of};
-ghost use Rattle.c5_definitions.specs.Places.{new_name_in, type_in, table_in, key_in, row_name_in, number_in, cell_in, found_or, columns_of, column_in, rel_in, session_in, turn_in, int_column_of};
-ghost use Rattle.c5_script.specs.Words.{word_of};
+ghost use Rattle.c5_rows.specs.Tables.{IsSchema, table_number};
+ghost use Rattle.c5_definitions.specs.Places.{new_name_in, type_in, table_in, key_in, row_name_in, int_in, cell_in, found_or, columns_of, column_in, rel_in, session_in, turn_in, int_column_of};
+ghost use Rattle.c5_script.specs.Words.{held_word};
 
 use crate::numerals::{number_of, turn_number_of};
 use crate::word::Word;
 use c5_definitions::{Rel, ScriptKind, TurnWord};
-use c5_rows::{Cell, CellType, Key, RowName, TableDef, TableName, TextCell};
-
-// Whether the table has this name. Names of one length that begin alike mostly differ in their last byte.
-fn has_name(table: &TableDef, name: &[u8]) -> bool
-    ensures { result ≡ bytes_eq table.now.name name.now }
-{
-    let own = table.name.bytes();
-    let last = own.len() - 1;
-    own.len() == name.len() && own[last] == name[last] && own == name
-}
-
-// The number of the table of this name.
-fn number_named(tables: &[TableDef], name: &[u8]) -> Option<u8>
-    requires { length tables.now ≤ 16 }
-    ensures { result ≡ table_of name.now tables.now }
-{
-    for (number, table) in tables.iter().enumerate() {
-        if has_name(table, name) {
-            return Some(number as u8);
-        }
-    }
-    None
-}
+use c5_rows::{
+    Cell, CellType, Key, MAX_SESSIONS, RowName, TableDef, TableName, TextCell, find_table,
+};
 
 /// The name of a new table.
 #[tactic(auto, unfolding(c5_definitions::specs::Places::new_name_in))]
 pub(crate) fn new_name(tables: &[TableDef], word: Word) -> Result<TableName, ScriptKind>
-    requires { length tables.now ≤ 16 }
-    ensures value { result ≡ new_name_in tables.now (word_of word.entry) }
-    ensures new { IfOk result (λ name. table_of name tables.now ≡ None) }
+    requires { length tables.now ≤ max_tables }
+    ensures value { result ≡ new_name_in tables.now (held_word word.entry) }
+    ensures new { IfOk result (λ name. table_number name tables.now ≡ None) }
 {
     let Word::Bare(bytes) = word else {
         return Err(ScriptKind::Name);
@@ -47,7 +28,7 @@ pub(crate) fn new_name(tables: &[TableDef], word: Word) -> Result<TableName, Scr
     let Ok(name) = TableName::new(bytes) else {
         return Err(ScriptKind::Name);
     };
-    match number_named(tables, name.bytes()) {
+    match find_table(tables, name.bytes()) {
         Some(_) => Err(ScriptKind::Name),
         None => Ok(name),
     }
@@ -56,7 +37,7 @@ pub(crate) fn new_name(tables: &[TableDef], word: Word) -> Result<TableName, Scr
 /// The type of a column.
 #[tactic(auto, unfolding(c5_definitions::specs::Places::type_in))]
 pub(crate) fn column_type(word: Word) -> Result<CellType, ScriptKind>
-    ensures { result ≡ type_in (word_of word.entry) }
+    ensures { result ≡ type_in (held_word word.entry) }
 {
     let Word::Bare(bytes) = word else {
         return Err(ScriptKind::WrongType);
@@ -73,13 +54,13 @@ pub(crate) fn column_type(word: Word) -> Result<CellType, ScriptKind>
 /// The number of the table that the word names.
 #[tactic(auto, unfolding(c5_definitions::specs::Places::table_in))]
 pub(crate) fn table(tables: &[TableDef], word: Word) -> Result<u8, ScriptKind>
-    requires { length tables.now ≤ 16 }
-    ensures { result ≡ table_in tables.now (word_of word.entry) }
+    requires { length tables.now ≤ max_tables }
+    ensures { result ≡ table_in tables.now (held_word word.entry) }
 {
     let Word::Bare(name) = word else {
         return Err(ScriptKind::Table);
     };
-    match number_named(tables, name) {
+    match find_table(tables, name) {
         Some(number) => Ok(number),
         None => Err(ScriptKind::Table),
     }
@@ -88,7 +69,7 @@ pub(crate) fn table(tables: &[TableDef], word: Word) -> Result<u8, ScriptKind>
 /// The key of a row.
 #[tactic(auto, unfolding(c5_definitions::specs::Places::key_in))]
 pub(crate) fn key(word: Word) -> Result<Key, ScriptKind>
-    ensures { result ≡ key_in (word_of word.entry) }
+    ensures { result ≡ key_in (held_word word.entry) }
 {
     let Word::Bare(bytes) = word else {
         return Err(ScriptKind::Key);
@@ -106,8 +87,8 @@ pub(crate) fn row_name(
     table_word: Word,
     key_word: Word,
 ) -> Result<RowName, ScriptKind>
-    requires { length tables.now ≤ 16 }
-    ensures { result ≡ row_name_in tables.now (word_of table_word.entry) (word_of key_word.entry) }
+    requires { length tables.now ≤ max_tables }
+    ensures { result ≡ row_name_in tables.now (held_word table_word.entry) (held_word key_word.entry) }
 {
     let table = table(tables, table_word)?;
     let key = key(key_word)?;
@@ -115,9 +96,9 @@ pub(crate) fn row_name(
 }
 
 /// A number.
-#[tactic(auto, unfolding(c5_definitions::specs::Places::number_in))]
+#[tactic(auto, unfolding(c5_definitions::specs::Places::int_in))]
 pub(crate) fn number(word: Word) -> Result<i64, ScriptKind>
-    ensures { result ≡ number_in (word_of word.entry) }
+    ensures { result ≡ int_in (held_word word.entry) }
 {
     let Word::Bare(bytes) = word else {
         return Err(ScriptKind::Number);
@@ -130,7 +111,7 @@ pub(crate) fn number(word: Word) -> Result<i64, ScriptKind>
 
 #[tactic(auto, unfolding(c5_definitions::specs::Places::cell_in))]
 fn int_cell(word: Word) -> Result<Cell, ScriptKind>
-    ensures { result ≡ cell_in CellType.Int (word_of word.entry) }
+    ensures { result ≡ cell_in CellType.Int (held_word word.entry) }
 {
     let Word::Bare(bytes) = word else {
         return Err(ScriptKind::WrongType);
@@ -143,7 +124,7 @@ fn int_cell(word: Word) -> Result<Cell, ScriptKind>
 
 #[tactic(auto, unfolding(c5_definitions::specs::Places::cell_in))]
 fn text_cell(word: Word) -> Result<Cell, ScriptKind>
-    ensures { result ≡ cell_in CellType.Text (word_of word.entry) }
+    ensures { result ≡ cell_in CellType.Text (held_word word.entry) }
 {
     let Word::Quoted(bytes) = word else {
         return Err(ScriptKind::WrongType);
@@ -157,7 +138,7 @@ fn text_cell(word: Word) -> Result<Cell, ScriptKind>
 /// A cell of a column of this type.
 #[tactic(auto, unfolding(c5_definitions::specs::Places::cell_in))]
 pub(crate) fn cell(column: CellType, word: Word) -> Result<Cell, ScriptKind>
-    ensures { result ≡ cell_in column (word_of word.entry) }
+    ensures { result ≡ cell_in column (held_word word.entry) }
 {
     match column {
         CellType::Int => int_cell(word),
@@ -168,7 +149,7 @@ pub(crate) fn cell(column: CellType, word: Word) -> Result<Cell, ScriptKind>
 /// The columns of the table of this number; none where there is no such table.
 pub(crate) fn columns(tables: &[TableDef], number: u8) -> &[CellType]
     ensures value { result.now ≡ columns_of tables.now number }
-    ensures at_most_eight { length result.now ≤ 8 }
+    ensures few { length result.now ≤ max_columns }
 {
     match tables.get(number as usize) {
         Some(table) => table.columns.types(),
@@ -190,7 +171,7 @@ fn column_numbered(columns: &[CellType], column: u8) -> Result<u8, ScriptKind>
 /// The number of a column of the type Int.
 #[tactic(auto, unfolding(c5_definitions::specs::Places::column_in))]
 pub(crate) fn int_column(columns: &[CellType], word: Word) -> Result<u8, ScriptKind>
-    ensures { result ≡ column_in columns.now (word_of word.entry) }
+    ensures { result ≡ column_in columns.now (held_word word.entry) }
 {
     match word {
         Word::Bare([digit]) if digit.is_ascii_digit() => column_numbered(columns, *digit - b'0'),
@@ -201,7 +182,7 @@ pub(crate) fn int_column(columns: &[CellType], word: Word) -> Result<u8, ScriptK
 /// How to compare.
 #[tactic(auto, unfolding(c5_definitions::specs::Places::rel_in))]
 pub(crate) fn rel(word: Word) -> Result<Rel, ScriptKind>
-    ensures { result ≡ rel_in (word_of word.entry) }
+    ensures { result ≡ rel_in (held_word word.entry) }
 {
     let Word::Bare(bytes) = word else {
         return Err(ScriptKind::Word);
@@ -224,11 +205,11 @@ pub(crate) fn rel(word: Word) -> Result<Rel, ScriptKind>
 /// A session.
 #[tactic(auto, unfolding(c5_definitions::specs::Places::session_in))]
 pub(crate) fn session(word: Word) -> Result<u32, ScriptKind>
-    ensures value { result ≡ session_in (word_of word.entry) }
-    ensures range { IfOk result (λ session. (1 ≤ session) × (session ≤ 16)) }
+    ensures value { result ≡ session_in (held_word word.entry) }
+    ensures range { IfOk result (λ session. (1 ≤ session) × (session ≤ max_sessions)) }
 {
     let number = number(word)?;
-    if number >= 1 && number <= 16 {
+    if number >= 1 && number <= i64::from(MAX_SESSIONS) {
         Ok(number as u32)
     } else {
         Err(ScriptKind::Number)
@@ -236,7 +217,8 @@ pub(crate) fn session(word: Word) -> Result<u32, ScriptKind>
 }
 
 fn turn_number(digits: &[u8]) -> Result<u32, ScriptKind>
-    ensures { result ≡ found_or ScriptKind.Number (turn_number_of digits.now) }
+    ensures value { result ≡ found_or ScriptKind.Number (turn_number_of digits.now) }
+    ensures range { IfOk result (λ n. (1 ≤ n) × (n ≤ max_workers) × (n ≤ max_sessions)) }
 {
     match turn_number_of(digits) {
         Some(number) => Ok(number),
@@ -247,7 +229,8 @@ fn turn_number(digits: &[u8]) -> Result<u32, ScriptKind>
 /// A step of the schedule.
 #[tactic(auto, unfolding(c5_definitions::specs::Places::turn_in))]
 pub(crate) fn turn(word: Word) -> Result<TurnWord, ScriptKind>
-    ensures { result ≡ turn_in (word_of word.entry) }
+    ensures value { result ≡ turn_in (held_word word.entry) }
+    ensures range { IfOk result IsTurn }
 {
     match word {
         Word::Bare([b'w', digits @ ..]) => {

@@ -1,26 +1,24 @@
 //! The lines of a read block.
 
-ghost use Rattle.std.specs.Prelude.{◌≡◌, ◌≤◌, ◌<◌, ◌∷◌, [], length, IfOk, OnOk};
+ghost use Rattle.std.specs.Prelude.{◌+◌, ◌≡◌, ◌≤◌, ◌<◌, ◌∷◌, [], length, IfOk, OnOk};
+ghost use Rattle.c5_rows.specs.Sizes.{max_tables, max_sum_keys, max_read_lines};
 ghost use Rattle.c5_definitions.specs.FitsScript.{ReadLineFits};
 ghost use Rattle.c5_definitions.specs.Statements.{row_words, sum_words, question_line};
-ghost use Rattle.c5_script.specs.Words.{word_of, words_of};
+ghost use Rattle.c5_script.specs.Words.{held_word, held_words};
 
 use crate::lists::keys;
 use crate::places::{columns, int_column, row_name, table};
 use crate::word::Word;
 use c5_definitions::{ReadLine, ScriptKind};
-use c5_rows::TableDef;
+use c5_rows::{MAX_READ_LINES, MAX_SUM_KEYS, TableDef};
 
-/// How many lines a read block has at most.
-const MOST_LINES: usize = 16;
-
-/// How many words a sum has at most behind its first one: a table, a column and 16 keys.
-const MOST_SUM_WORDS: usize = 18;
+/// The most words of a sum after its first one: a table, a column and the keys.
+const MAX_SUM_WORDS: usize = 2 + MAX_SUM_KEYS;
 
 #[tactic(auto, unfolding(c5_definitions::specs::Statements::row_words))]
 fn row(tables: &[TableDef], words: &[Word]) -> Result<ReadLine, ScriptKind>
-    requires { length tables.now ≤ 16 }
-    ensures { result ≡ row_words tables.now (words_of words.now) }
+    requires { length tables.now ≤ max_tables }
+    ensures { result ≡ row_words tables.now (held_words words.now) }
 {
     let [table, key] = words else {
         return Err(ScriptKind::Count);
@@ -37,9 +35,9 @@ fn sum_of(
     first: Word,
     others: &[Word],
 ) -> Result<ReadLine, ScriptKind>
-    requires tables { length tables.now ≤ 16 }
-    requires keys { length others.now < 16 }
-    ensures { result ≡ sum_words tables.now (word_of table_word.entry ∷ word_of column.entry ∷ word_of first.entry ∷ words_of others.now) }
+    requires tables { length tables.now ≤ max_tables }
+    requires keys { length others.now < max_sum_keys }
+    ensures { result ≡ sum_words tables.now (held_word table_word.entry ∷ held_word column.entry ∷ held_word first.entry ∷ held_words others.now) }
 {
     let table = table(tables, table_word)?;
     let col = int_column(columns(tables, table), column)?;
@@ -49,9 +47,9 @@ fn sum_of(
 
 #[tactic(auto, unfolding(c5_definitions::specs::Statements::sum_words))]
 fn sum(tables: &[TableDef], words: &[Word]) -> Result<ReadLine, ScriptKind>
-    requires tables { length tables.now ≤ 16 }
-    requires few { length words.now ≤ 18 }
-    ensures { result ≡ sum_words tables.now (words_of words.now) }
+    requires tables { length tables.now ≤ max_tables }
+    requires few { length words.now ≤ 2 + max_sum_keys }
+    ensures { result ≡ sum_words tables.now (held_words words.now) }
 {
     match words {
         [] | [_] | [_, _] => Err(ScriptKind::Count),
@@ -67,18 +65,18 @@ pub(crate) fn question(
     first: &[u8],
     words: &[Word],
 ) -> Result<ReadLine, ScriptKind>
-    requires { length tables.now ≤ 16 }
-    ensures value { result ≡ question_line tables.now count first.now (words_of words.now) }
+    requires { length tables.now ≤ max_tables }
+    ensures value { result ≡ question_line tables.now count first.now (held_words words.now) }
     ensures fits { IfOk result (λ line. ReadLineFits tables.now line) }
-    ensures room { OnOk result (count < 16) }
+    ensures room { OnOk result (count < max_read_lines) }
 {
     if first == b"row".as_slice() {
-        if count >= MOST_LINES {
+        if count >= MAX_READ_LINES {
             return Err(ScriptKind::Limit);
         }
         row(tables, words)
     } else if first == b"sum".as_slice() {
-        if count >= MOST_LINES || words.len() > MOST_SUM_WORDS {
+        if count >= MAX_READ_LINES || words.len() > MAX_SUM_WORDS {
             return Err(ScriptKind::Limit);
         }
         sum(tables, words)

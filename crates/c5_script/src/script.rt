@@ -1,10 +1,11 @@
 //! Whole scripts.
 
 ghost use Rattle.std.specs.Prelude.{◌≡◌, ◌<◌, ◌++◌, ◌∷◌, [], None, length, OnOk, OnErr};
-ghost use Rattle.c5_rows.specs.Tables.{table_of, IsSchema};
+ghost use Rattle.c5_rows.specs.Sizes.{max_tables, max_reads, max_turn_words};
+ghost use Rattle.c5_rows.specs.Tables.{table_number, IsSchema};
 ghost use Rattle.std.specs.List.{AllByRecursion};
 ghost use Rattle.c5_definitions.specs.Lawful.{IsLawfulTable};
-ghost use Rattle.c5_definitions.specs.FitsScript.{IsScript, BodyFits, ReadFits};
+ghost use Rattle.c5_definitions.specs.FitsScript.{IsScript, IsTurn, BodyFits, ReadFits};
 
 use crate::blocks::ReadBlock;
 use crate::bodies::Body;
@@ -75,8 +76,8 @@ impl Script {
     pub(crate) fn push_table(&mut self, table: TableDef)
         requires no_bodies { self.old.bodies ≡ [] }
         requires no_reads { self.old.reads ≡ [] }
-        requires room { length self.old.tables < 16 }
-        requires new_name { table_of table.name self.old.tables ≡ None }
+        requires room { length self.old.tables < max_tables }
+        requires new_name { table_number table.name self.old.tables ≡ None }
         ensures { self.new ≡ record { tables = self.old.tables ++ table ∷ []; bodies = []; reads = []; turns = self.old.turns } }
     {
         match self.schema.push(table) {
@@ -99,7 +100,7 @@ impl Script {
 
     /// Adds a read block at the end. After `NoMemory` nothing has changed, and the block is dropped.
     pub fn push_read(&mut self, read: ReadBlock) -> Result<(), NoMemory>
-        requires room { length self.old.reads < 256 }
+        requires room { length self.old.reads < max_reads }
         requires fits { ReadFits self.old.tables read }
         ensures ok { OnOk result (self.new ≡ record { tables = self.old.tables; bodies = self.old.bodies; reads = self.old.reads ++ read ∷ []; turns = self.old.turns }) }
         ensures err { OnErr result (self.new ≡ self.old) }
@@ -111,6 +112,8 @@ impl Script {
 
     /// Adds a turn word at the end. After `NoMemory` nothing has changed.
     pub(crate) fn push_turn(&mut self, word: TurnWord) -> Result<(), NoMemory>
+        requires range { IsTurn word }
+        requires room { length self.old.turns < max_turn_words }
         ensures ok { OnOk result (self.new ≡ record { tables = self.old.tables; bodies = self.old.bodies; reads = self.old.reads; turns = self.old.turns ++ word ∷ [] }) }
         ensures err { OnErr result (self.new ≡ self.old) }
     {

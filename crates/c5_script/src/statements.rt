@@ -2,13 +2,15 @@
 //! than 300 bytes, and each function that handed it on would copy it.
 
 ghost use Rattle.std.specs.Prelude.{◌≡◌, ◌≤◌, ◌<◌, ◌∷◌, [], length, OnErr};
+ghost use Rattle.c5_rows.specs.Sizes.{max_tables, max_statements};
 ghost use Rattle.c5_definitions.specs.FitsScript.{BodyFits};
 ghost use Rattle.c5_definitions.specs.ScriptSoFar.{in_txn};
-ghost use Rattle.c5_definitions.specs.Statements.{put_of, put_words, del_words, need_words, add_words, copy_words, form_of, statement_words, statement_line};
+ghost use Rattle.c5_definitions.specs.Statements.{put_statement, put_words, del_words, need_words, add_words, copy_words, form_of, statement_words, statement_line};
 ghost use Rattle.c5_script.specs.Forms.{form_held};
 ghost use Rattle.c5_script.specs.Partial.{with_statement};
-ghost use Rattle.c5_script.specs.Taking.{Gives, StepsTo};
-ghost use Rattle.c5_script.specs.Words.{word_of, words_of};
+ghost use Rattle.c5_script.specs.Taking.{StepsTo};
+ghost use Rattle.c5_definitions.specs.Steps.{Gives};
+ghost use Rattle.c5_script.specs.Words.{held_word, held_words};
 
 use crate::bodies::Body;
 use crate::fault::LineError;
@@ -16,12 +18,11 @@ use crate::lists::read_row;
 use crate::places::{columns, int_column, key, number, rel, row_name};
 use crate::word::Word;
 use c5_definitions::{ScriptKind, Statement};
-use c5_rows::{Cell, Row, RowName, TableDef};
+use c5_rows::{Cell, MAX_STATEMENTS, Row, RowName, TableDef};
 
 /// How many statements a transaction has at most.
-const MOST_STATEMENTS: usize = 256;
 
-#[tactic(auto, unfolding(c5_definitions::specs::Statements::put_of))]
+#[tactic(auto, unfolding(c5_definitions::specs::Statements::put_statement))]
 #[inline(never)]
 fn put_of(
     body: &mut Body,
@@ -30,10 +31,10 @@ fn put_of(
     key: Word,
     cells: &[Word],
 ) -> Result<(), LineError>
-    requires tables { length tables.now ≤ 16 }
-    requires room { length body.old < 256 }
+    requires tables { length tables.now ≤ max_tables }
+    requires room { length body.old < max_statements }
     requires some { 1 ≤ length cells.now }
-    ensures step { StepsTo (λ _. in_txn body.new) result (with_statement body.old (put_of tables.now (word_of table.entry) (word_of key.entry) (words_of cells.now))) }
+    ensures step { StepsTo (λ _. in_txn body.new) result (with_statement body.old (put_statement tables.now (held_word table.entry) (held_word key.entry) (held_words cells.now))) }
     ensures err { OnErr result (body.new ≡ body.old) }
 {
     let name = row_name(tables, table, key)?;
@@ -45,9 +46,9 @@ fn put_of(
 
 #[tactic(auto, unfolding(c5_definitions::specs::Statements::put_words))]
 fn put(body: &mut Body, tables: &[TableDef], words: &[Word]) -> Result<(), LineError>
-    requires tables { length tables.now ≤ 16 }
-    requires room { length body.old < 256 }
-    ensures step { StepsTo (λ _. in_txn body.new) result (with_statement body.old (put_words tables.now (words_of words.now))) }
+    requires tables { length tables.now ≤ max_tables }
+    requires room { length body.old < max_statements }
+    ensures step { StepsTo (λ _. in_txn body.new) result (with_statement body.old (put_words tables.now (held_words words.now))) }
     ensures err { OnErr result (body.new ≡ body.old) }
 {
     match words {
@@ -59,9 +60,9 @@ fn put(body: &mut Body, tables: &[TableDef], words: &[Word]) -> Result<(), LineE
 #[tactic(auto, unfolding(c5_definitions::specs::Statements::del_words))]
 #[inline(never)]
 fn del(body: &mut Body, tables: &[TableDef], words: &[Word]) -> Result<(), LineError>
-    requires tables { length tables.now ≤ 16 }
-    requires room { length body.old < 256 }
-    ensures step { StepsTo (λ _. in_txn body.new) result (with_statement body.old (del_words tables.now (words_of words.now))) }
+    requires tables { length tables.now ≤ max_tables }
+    requires room { length body.old < max_statements }
+    ensures step { StepsTo (λ _. in_txn body.new) result (with_statement body.old (del_words tables.now (held_words words.now))) }
     ensures err { OnErr result (body.new ≡ body.old) }
 {
     let [table, key] = words else {
@@ -83,9 +84,9 @@ fn need_of(
     relation: Word,
     limit: Word,
 ) -> Result<(), LineError>
-    requires tables { length tables.now ≤ 16 }
-    requires room { length body.old < 256 }
-    ensures step { StepsTo (λ _. in_txn body.new) result (with_statement body.old (need_words tables.now (word_of table.entry ∷ word_of key.entry ∷ word_of column.entry ∷ word_of relation.entry ∷ word_of limit.entry ∷ []))) }
+    requires tables { length tables.now ≤ max_tables }
+    requires room { length body.old < max_statements }
+    ensures step { StepsTo (λ _. in_txn body.new) result (with_statement body.old (need_words tables.now (held_word table.entry ∷ held_word key.entry ∷ held_word column.entry ∷ held_word relation.entry ∷ held_word limit.entry ∷ []))) }
     ensures err { OnErr result (body.new ≡ body.old) }
 {
     let name = row_name(tables, table, key)?;
@@ -98,9 +99,9 @@ fn need_of(
 
 #[tactic(auto, unfolding(c5_definitions::specs::Statements::need_words))]
 fn need(body: &mut Body, tables: &[TableDef], words: &[Word]) -> Result<(), LineError>
-    requires tables { length tables.now ≤ 16 }
-    requires room { length body.old < 256 }
-    ensures step { StepsTo (λ _. in_txn body.new) result (with_statement body.old (need_words tables.now (words_of words.now))) }
+    requires tables { length tables.now ≤ max_tables }
+    requires room { length body.old < max_statements }
+    ensures step { StepsTo (λ _. in_txn body.new) result (with_statement body.old (need_words tables.now (held_words words.now))) }
     ensures err { OnErr result (body.new ≡ body.old) }
 {
     match words {
@@ -121,9 +122,9 @@ fn add_of(
     column: Word,
     amount: Word,
 ) -> Result<(), LineError>
-    requires tables { length tables.now ≤ 16 }
-    requires room { length body.old < 256 }
-    ensures step { StepsTo (λ _. in_txn body.new) result (with_statement body.old (add_words tables.now (word_of table.entry ∷ word_of key.entry ∷ word_of column.entry ∷ word_of amount.entry ∷ []))) }
+    requires tables { length tables.now ≤ max_tables }
+    requires room { length body.old < max_statements }
+    ensures step { StepsTo (λ _. in_txn body.new) result (with_statement body.old (add_words tables.now (held_word table.entry ∷ held_word key.entry ∷ held_word column.entry ∷ held_word amount.entry ∷ []))) }
     ensures err { OnErr result (body.new ≡ body.old) }
 {
     let name = row_name(tables, table, key)?;
@@ -135,9 +136,9 @@ fn add_of(
 
 #[tactic(auto, unfolding(c5_definitions::specs::Statements::add_words))]
 fn add(body: &mut Body, tables: &[TableDef], words: &[Word]) -> Result<(), LineError>
-    requires tables { length tables.now ≤ 16 }
-    requires room { length body.old < 256 }
-    ensures step { StepsTo (λ _. in_txn body.new) result (with_statement body.old (add_words tables.now (words_of words.now))) }
+    requires tables { length tables.now ≤ max_tables }
+    requires room { length body.old < max_statements }
+    ensures step { StepsTo (λ _. in_txn body.new) result (with_statement body.old (add_words tables.now (held_words words.now))) }
     ensures err { OnErr result (body.new ≡ body.old) }
 {
     match words {
@@ -155,9 +156,9 @@ fn copy_of(
     from: Word,
     to: Word,
 ) -> Result<(), LineError>
-    requires tables { length tables.now ≤ 16 }
-    requires room { length body.old < 256 }
-    ensures step { StepsTo (λ _. in_txn body.new) result (with_statement body.old (copy_words tables.now (word_of table.entry ∷ word_of from.entry ∷ word_of to.entry ∷ []))) }
+    requires tables { length tables.now ≤ max_tables }
+    requires room { length body.old < max_statements }
+    ensures step { StepsTo (λ _. in_txn body.new) result (with_statement body.old (copy_words tables.now (held_word table.entry ∷ held_word from.entry ∷ held_word to.entry ∷ []))) }
     ensures err { OnErr result (body.new ≡ body.old) }
 {
     let from = row_name(tables, table, from)?;
@@ -172,9 +173,9 @@ fn copy_of(
 
 #[tactic(auto, unfolding(c5_definitions::specs::Statements::copy_words))]
 fn copy(body: &mut Body, tables: &[TableDef], words: &[Word]) -> Result<(), LineError>
-    requires tables { length tables.now ≤ 16 }
-    requires room { length body.old < 256 }
-    ensures step { StepsTo (λ _. in_txn body.new) result (with_statement body.old (copy_words tables.now (words_of words.now))) }
+    requires tables { length tables.now ≤ max_tables }
+    requires room { length body.old < max_statements }
+    ensures step { StepsTo (λ _. in_txn body.new) result (with_statement body.old (copy_words tables.now (held_words words.now))) }
     ensures err { OnErr result (body.new ≡ body.old) }
 {
     match words {
@@ -219,9 +220,9 @@ fn statement_of(
     form: Form,
     words: &[Word],
 ) -> Result<(), LineError>
-    requires tables { length tables.now ≤ 16 }
-    requires room { length body.old < 256 }
-    ensures step { StepsTo (λ _. in_txn body.new) result (with_statement body.old (statement_words (form_held form) tables.now (words_of words.now))) }
+    requires tables { length tables.now ≤ max_tables }
+    requires room { length body.old < max_statements }
+    ensures step { StepsTo (λ _. in_txn body.new) result (with_statement body.old (statement_words (form_held form) tables.now (held_words words.now))) }
     ensures err { OnErr result (body.new ≡ body.old) }
 {
     match form {
@@ -241,13 +242,13 @@ pub(crate) fn add_statement(
     first: &[u8],
     words: &[Word],
 ) -> Result<(), LineError>
-    requires tables { length tables.now ≤ 16 }
+    requires tables { length tables.now ≤ max_tables }
     requires fits { BodyFits tables.now body.old }
-    ensures step { StepsTo (λ _. in_txn body.new) result (with_statement body.old (statement_line tables.now (length body.old) first.now (words_of words.now))) }
+    ensures step { StepsTo (λ _. in_txn body.new) result (with_statement body.old (statement_line tables.now (length body.old) first.now (held_words words.now))) }
     ensures fits { BodyFits tables.now body.new }
 {
     let form = form_of(first)?;
-    if body.statements().len() >= MOST_STATEMENTS {
+    if body.statements().len() >= MAX_STATEMENTS {
         return Err(LineError::Fault(ScriptKind::Limit));
     }
     statement_of(body, tables, form, words)

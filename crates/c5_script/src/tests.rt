@@ -2,6 +2,7 @@ ghost use Rattle.std.specs.Prelude.{◌≡◌, ◌∷◌, [], pos, IfOk, MatchOp
 ghost use Rattle.c5_rows.specs.declared.cells.CellType.TheVariants as types;
 
 use super::*;
+use c5_definitions::Excess;
 use c5_rows::{Cell, CellType, Columns, Key, Row, RowName, Schema, TableDef, TableName};
 use std::alloc::Global;
 use std::test::Fail;
@@ -56,7 +57,7 @@ fn a_script_has_what_was_pushed(rt: HostRuntime) -> Result<(), Fail> {
         script.bodies()[0].statements(),
         [Statement::Put { name, row }].as_slice()
     );
-    assert_eq!(rt; script.check_limits(rt.alloc()), Ok(()));
+    assert_eq!(rt; script.check_limits(rt.alloc()), Ok(None));
     Ok(())
 }
 
@@ -66,11 +67,11 @@ fn a_body_too_many_is_told(rt: HostRuntime) -> Result<(), Fail> {
     for _ in 0..65_536 {
         script.push_body(Body::new(rt.alloc()))?;
     }
-    assert_eq!(rt; script.check_limits(rt.alloc()), Ok(()));
+    assert_eq!(rt; script.check_limits(rt.alloc()), Ok(None));
     script.push_body(Body::new(rt.alloc()))?;
     assert_eq!(rt;
         script.check_limits(rt.alloc()),
-        Err(OverFault::Transactions)
+        Ok(Some(Excess::Transactions))
     );
     Ok(())
 }

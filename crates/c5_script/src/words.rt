@@ -4,7 +4,7 @@ ghost use Rattle.std.specs.Prelude.{◌≡◌, ◌≢◌, ◌<◌, ◌≤◌, �
 ghost use Rattle.std.specs.List.{list_all};
 ghost use Rattle.c5_definitions.specs.Words.{bare, quoted};
 ghost use Rattle.c5_definitions.specs.Lines.{between, in_bare, in_quoted, words_at, words_of, is_line_byte, is_word_end};
-ghost use Rattle.c5_script.specs.Words.{word_of, words_of as held_words};
+ghost use Rattle.c5_script.specs.Words.{held_word, held_words};
 ghost use Rattle.c5_script.specs.Reading.{FindsWord};
 ghost use Rattle.c5_script.specs.Taking.{StepsTo};
 
@@ -91,7 +91,7 @@ fn text_in(bytes: &[u8]) -> Result<(&[u8], &[u8]), ScriptKind>
 fn word_in(bytes: &[u8]) -> Result<(Word<'_>, &[u8]), ScriptKind>
     requires some { 1 ≤ length bytes.now }
     requires no_blank { slice_index bytes.now 0 ≢ 32 }
-    ensures words { FindsWord (λ x. word_of x.0) (λ x. x.1.now) (words_at between bytes.now) result }
+    ensures words { FindsWord (λ x. held_word x.0) (λ x. x.1.now) (words_at between bytes.now) result }
     ensures shorter { IfOk result (λ x. length x.1.now < length bytes.now) }
 {
     if bytes[0] == b'"' {

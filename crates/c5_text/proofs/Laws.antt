@@ -14,7 +14,7 @@ use Rattle.std.proofs.lemmas.List.{append-nil, nil_from_length, take-append-drop
 use Rattle.c5_rows.specs.declared.names.Bad.TheVariants.{Length, Byte}
 use Rattle.c5_rows.specs.Bytes.{AreBytes, IsText, IsTableName, checked_bytes, is_key_byte, is_text_byte, is_name_byte}
 use Rattle.c5_rows.specs.Cells.{type_of}
-use Rattle.c5_rows.specs.Tables.{table_from, table_of, HaveNames, IsSchema}
+use Rattle.c5_rows.specs.Tables.{table_number_from, table_number, HaveNames, IsSchema}
 use Rattle.c5_rows.specs.declared.cells.CellType.{CellType}
 use Rattle.c5_rows.specs.declared.cells.CellType.TheVariants as types
 use Rattle.c5_rows.specs.declared.cells.Cell.{Cell}
@@ -22,9 +22,9 @@ use Rattle.c5_rows.specs.declared.cells.Cell.TheVariants.{Int, Txt}
 use Rattle.c5_rows.specs.declared.tables.TableDef.{TableDef}
 use Rattle.c5_rows.specs.declared.rows.RowEntry.{RowEntry}
 use Rattle.c5_definitions.specs.Lawful.{IsLawfulCell}
-use Rattle.c5_definitions.specs.Texts.{cell_text, name_in}
+use Rattle.c5_definitions.specs.Texts.{cell_text, table_name_text}
 use Rattle.c5_definitions.specs.Texts.{line_text, IsRowOf}
-use Rattle.c5_text.specs.Reading.{◌>>=◌, or_none, before, behind, int_of, int_at, text_at, cell_at, cells_at, row_at, entry_at, line_at}
+use Rattle.c5_text.specs.Reading.{◌>>=◌, or_none, bytes_before, rest_after_byte, printed_int_of, printed_int_at, printed_text_at, printed_cell_at, printed_cells_at, printed_row_at, printed_entry_at, printed_line_at}
 use Rattle.c5_text.proofs.Steps.{some_is, kept, both, bind_some, ne-eqb}
 use Rattle.c5_text.proofs.Numbers.{int_of-sound, int_of-again}
 
@@ -37,13 +37,13 @@ not_is : (b : Bool) → not b ≡ true → b ≡ false
 not_is true e = absurd cc
 not_is false e = refl
 
-before-append : (stop : ℕ) (front rest : List ℕ) → list_all (other stop) front ≡ true → before stop rest ≡ 0 → before stop (front ++ rest) ≡ length front
-unfolding before
-before-append stop [] rest free starts = starts
-before-append stop (byte ∷ front) rest free starts =
+bytes_before-append : (stop : ℕ) (front rest : List ℕ) → list_all (other stop) front ≡ true → bytes_before stop rest ≡ 0 → bytes_before stop (front ++ rest) ≡ length front
+unfolding bytes_before
+bytes_before-append stop [] rest free starts = starts
+bytes_before-append stop (byte ∷ front) rest free starts =
     let parts = both (other stop byte) (list_all (other stop) front) free in
     let here : eqb byte stop ≡ false = not_is (eqb byte stop) parts.0 in
-    let more = before-append stop front rest parts.1 starts in
+    let more = bytes_before-append stop front rest parts.1 starts in
     rw (here, more) refl
 
 take-front : (front rest : List ℕ) → take (length front) (front ++ rest) ≡ front
@@ -54,26 +54,26 @@ drop-front : (front rest : List ℕ) → drop (length front) (front ++ rest) ≡
 drop-front [] rest = refl
 drop-front (byte ∷ front) rest = drop-front front rest
 
-cut-front : (stop : ℕ) (front rest : List ℕ) → list_all (other stop) front ≡ true → before stop rest ≡ 0 → take (before stop (front ++ rest)) (front ++ rest) ≡ front
-cut-front stop front rest free starts = ap (λ (n : ℕ). take n (front ++ rest)) (before-append stop front rest free starts) ∙ take-front front rest
+pub cut-front : (stop : ℕ) (front rest : List ℕ) → list_all (other stop) front ≡ true → bytes_before stop rest ≡ 0 → take (bytes_before stop (front ++ rest)) (front ++ rest) ≡ front
+cut-front stop front rest free starts = ap (λ (n : ℕ). take n (front ++ rest)) (bytes_before-append stop front rest free starts) ∙ take-front front rest
 
-cut-rest : (stop : ℕ) (front rest : List ℕ) → list_all (other stop) front ≡ true → before stop rest ≡ 0 → drop (before stop (front ++ rest)) (front ++ rest) ≡ rest
-cut-rest stop front rest free starts = ap (λ (n : ℕ). drop n (front ++ rest)) (before-append stop front rest free starts) ∙ drop-front front rest
+pub cut-rest : (stop : ℕ) (front rest : List ℕ) → list_all (other stop) front ≡ true → bytes_before stop rest ≡ 0 → drop (bytes_before stop (front ++ rest)) (front ++ rest) ≡ rest
+cut-rest stop front rest free starts = ap (λ (n : ℕ). drop n (front ++ rest)) (bytes_before-append stop front rest free starts) ∙ drop-front front rest
 
-before-here : (stop : ℕ) (rest : List ℕ) → before stop (stop ∷ rest) ≡ 0
-unfolding before
-before-here stop rest = search rules
+bytes_before-here : (stop : ℕ) (rest : List ℕ) → bytes_before stop (stop ∷ rest) ≡ 0
+unfolding bytes_before
+bytes_before-here stop rest = search rules
 
-behind-sound : (first : ℕ) (bytes rest : List ℕ) → behind first bytes ≡ Some rest → bytes ≡ first ∷ rest
-unfolding behind
-behind-sound first [] rest e = absurd cc
-behind-sound first (byte ∷ bytes) rest e =
+pub rest_after_byte-sound : (first : ℕ) (bytes rest : List ℕ) → rest_after_byte first bytes ≡ Some rest → bytes ≡ first ∷ rest
+unfolding rest_after_byte
+rest_after_byte-sound first [] rest e = absurd cc
+rest_after_byte-sound first (byte ∷ bytes) rest e =
     let a = kept (eqb byte first) (Some bytes) rest e in
     ap (λ (b : ℕ). b ∷ bytes) (eqb-true byte first a.0) ∙ ap (λ (t : List ℕ). first ∷ t) (some_is bytes rest a.1)
 
-behind-again : (first : ℕ) (rest : List ℕ) → behind first (first ∷ rest) ≡ Some rest
-unfolding behind
-behind-again first rest = search rules
+pub rest_after_byte-again : (first : ℕ) (rest : List ℕ) → rest_after_byte first (first ∷ rest) ≡ Some rest
+unfolding rest_after_byte
+rest_after_byte-again first rest = search rules
 
 -- ---- bytes that are allowed
 
@@ -92,7 +92,7 @@ text_byte-other byte e = grind (arith, nat_tests)
 name_byte-other : (byte : ℕ) → is_name_byte byte ≡ true → other 32 byte ≡ true
 name_byte-other byte e = grind (arith, nat_tests)
 
-digits-other : (bytes : List ℕ) → AllDigits 10 bytes → list_all (other 32) bytes ≡ true
+pub digits-other : (bytes : List ℕ) → AllDigits 10 bytes → list_all (other 32) bytes ≡ true
 digits-other [] digits = refl
 digits-other (byte ∷ bytes) digits =
     let range = digit_from_value byte digits.0 in
@@ -128,11 +128,11 @@ pub record IsCell (column : CellType) (bytes : List ℕ) (x : Cell × List ℕ) 
   pub lawful : IsLawfulCell x.0
   pub type : type_of x.0 ≡ column
 
-int-sound : (bytes : List ℕ) (x : Cell × List ℕ) → int_at bytes ≡ Some x → IsCell types.Int bytes x
-unfolding int_at
+int-sound : (bytes : List ℕ) (x : Cell × List ℕ) → printed_int_at bytes ≡ Some x → IsCell types.Int bytes x
+unfolding printed_int_at
 int-sound bytes x e =
-    let n = before 32 bytes in
-    let a = bind_some (int_of (take n bytes)) (λ number. Some (Int number, drop n bytes)) x e in
+    let n = bytes_before 32 bytes in
+    let a = bind_some (printed_int_of (take n bytes)) (λ number. Some (Int number, drop n bytes)) x e in
     let s = int_of-sound (take n bytes) a.0 a.1 in
     subst (IsCell types.Int bytes) (some_is (Int a.0, drop n bytes) x a.2) (record {
       parts = sym (take-append-drop n bytes) ∙ ap (λ (t : List ℕ). t ++ drop n bytes) s.0;
@@ -140,19 +140,19 @@ int-sound bytes x e =
       type = refl;
     })
 
-text-sound : (quoted : List ℕ) (x : Cell × List ℕ) → text_at quoted ≡ Some x → IsCell types.Text quoted x
-unfolding text_at
+text-sound : (quoted : List ℕ) (x : Cell × List ℕ) → printed_text_at quoted ≡ Some x → IsCell types.Text quoted x
+unfolding printed_text_at
 text-sound quoted x e =
-    let a = bind_some (behind 34 quoted) (λ bytes. or_none (checked_bytes 0 32 is_text_byte (take (before 34 bytes) bytes)) >>= λ text. behind 34 (drop (before 34 bytes) bytes) >>= λ rest. Some (Txt text, rest)) x e in
+    let a = bind_some (rest_after_byte 34 quoted) (λ bytes. or_none (checked_bytes 0 32 is_text_byte (take (bytes_before 34 bytes) bytes)) >>= λ text. rest_after_byte 34 (drop (bytes_before 34 bytes) bytes) >>= λ rest. Some (Txt text, rest)) x e in
     let bytes = a.0 in
-    let n = before 34 bytes in
-    let b = bind_some (or_none (checked_bytes 0 32 is_text_byte (take n bytes))) (λ text. behind 34 (drop n bytes) >>= λ rest. Some (Txt text, rest)) x a.2 in
-    let d = bind_some (behind 34 (drop n bytes)) (λ rest. Some (Txt b.0, rest)) x b.2 in
+    let n = bytes_before 34 bytes in
+    let b = bind_some (or_none (checked_bytes 0 32 is_text_byte (take n bytes))) (λ text. rest_after_byte 34 (drop n bytes) >>= λ rest. Some (Txt text, rest)) x a.2 in
+    let d = bind_some (rest_after_byte 34 (drop n bytes)) (λ rest. Some (Txt b.0, rest)) x b.2 in
     let checked = checked-sound 0 32 is_text_byte (take n bytes) b.0 b.1 in
-    let close : drop n bytes ≡ 34 ∷ d.0 = behind-sound 34 (drop n bytes) d.0 d.1 in
+    let close : drop n bytes ≡ 34 ∷ d.0 = rest_after_byte-sound 34 (drop n bytes) d.0 d.1 in
     let inner : bytes ≡ b.0 ++ 34 ∷ d.0 = sym (take-append-drop n bytes) ∙ ap (λ (t : List ℕ). t ++ drop n bytes) (sym checked.0) ∙ ap (λ (t : List ℕ). b.0 ++ t) close in
     subst (IsCell types.Text quoted) (some_is (Txt b.0, d.0) x d.2) (record {
-      parts = behind-sound 34 quoted bytes a.1 ∙ ap (λ (t : List ℕ). 34 ∷ t) (inner ∙ sym (append_assoc b.0 (34 ∷ []) d.0));
+      parts = rest_after_byte-sound 34 quoted bytes a.1 ∙ ap (λ (t : List ℕ). 34 ∷ t) (inner ∙ sym (append_assoc b.0 (34 ∷ []) d.0));
       lawful = checked.1;
       type = refl;
     })
@@ -163,49 +163,49 @@ pub record IsCellBehind (column : CellType) (bytes : List ℕ) (x : Cell × List
   pub lawful : IsLawfulCell x.0
   pub type : type_of x.0 ≡ column
 
-with_blank : (column : CellType) (bytes rest : List ℕ) (x : Cell × List ℕ) → behind 32 bytes ≡ Some rest → IsCell column rest x → IsCellBehind column bytes x
-with_blank column bytes rest x e cell = record { parts = behind-sound 32 bytes rest e ∙ ap (λ (t : List ℕ). 32 ∷ t) cell.parts; lawful = cell.lawful; type = cell.type }
+with_blank : (column : CellType) (bytes rest : List ℕ) (x : Cell × List ℕ) → rest_after_byte 32 bytes ≡ Some rest → IsCell column rest x → IsCellBehind column bytes x
+with_blank column bytes rest x e cell = record { parts = rest_after_byte-sound 32 bytes rest e ∙ ap (λ (t : List ℕ). 32 ∷ t) cell.parts; lawful = cell.lawful; type = cell.type }
 
-cell-sound : (column : CellType) (bytes : List ℕ) (x : Cell × List ℕ) → cell_at column bytes ≡ Some x → IsCellBehind column bytes x
-unfolding cell_at
-cell-sound types.Int bytes x e = let a = bind_some (behind 32 bytes) int_at x e in with_blank types.Int bytes a.0 x a.1 (int-sound a.0 x a.2)
-cell-sound types.Text bytes x e = let a = bind_some (behind 32 bytes) text_at x e in with_blank types.Text bytes a.0 x a.1 (text-sound a.0 x a.2)
+cell-sound : (column : CellType) (bytes : List ℕ) (x : Cell × List ℕ) → printed_cell_at column bytes ≡ Some x → IsCellBehind column bytes x
+unfolding printed_cell_at
+cell-sound types.Int bytes x e = let a = bind_some (rest_after_byte 32 bytes) printed_int_at x e in with_blank types.Int bytes a.0 x a.1 (int-sound a.0 x a.2)
+cell-sound types.Text bytes x e = let a = bind_some (rest_after_byte 32 bytes) printed_text_at x e in with_blank types.Text bytes a.0 x a.1 (text-sound a.0 x a.2)
 
-int-again : (n : ℤ) (rest : List ℕ) → FitsSigned w64 n → before 32 rest ≡ 0 → int_at (signed_decimal n ++ rest) ≡ Some (Int n, rest)
-unfolding int_at
+int-again : (n : ℤ) (rest : List ℕ) → FitsSigned w64 n → bytes_before 32 rest ≡ 0 → printed_int_at (signed_decimal n ++ rest) ≡ Some (Int n, rest)
+unfolding printed_int_at
 int-again n rest fits starts =
     let free = number-other n fits in
     let front = cut-front 32 (signed_decimal n) rest free starts in
     let back = cut-rest 32 (signed_decimal n) rest free starts in
     rw (front, back, int_of-again n fits) refl
 
-text-again : (text rest : List ℕ) → IsText text → text_at (34 ∷ text ++ 34 ∷ rest) ≡ Some (Txt text, rest)
-unfolding text_at
+text-again : (text rest : List ℕ) → IsText text → printed_text_at (34 ∷ text ++ 34 ∷ rest) ≡ Some (Txt text, rest)
+unfolding printed_text_at
 text-again text rest is =
     let free = all-other is_text_byte (other 34) text_byte-other text is.each in
-    let starts = before-here 34 rest in
+    let starts = bytes_before-here 34 rest in
     let front = cut-front 34 text (34 ∷ rest) free starts in
     let back = cut-rest 34 text (34 ∷ rest) free starts in
-    rw (behind-again 34 (text ++ 34 ∷ rest), front, checked-again 0 32 is_text_byte text is, back, behind-again 34 rest) refl
+    rw (rest_after_byte-again 34 (text ++ 34 ∷ rest), front, checked-again 0 32 is_text_byte text is, back, rest_after_byte-again 34 rest) refl
 
-cell-again : (cell : Cell) (rest : List ℕ) → IsLawfulCell cell → before 32 rest ≡ 0 → cell_at (type_of cell) (32 ∷ cell_text cell ++ rest) ≡ Some (cell, rest)
-unfolding cell_at
-cell-again (Int n) rest lawful starts = rw (behind-again 32 (signed_decimal n ++ rest)) (int-again n rest lawful starts)
+cell-again : (cell : Cell) (rest : List ℕ) → IsLawfulCell cell → bytes_before 32 rest ≡ 0 → printed_cell_at (type_of cell) (32 ∷ cell_text cell ++ rest) ≡ Some (cell, rest)
+unfolding printed_cell_at
+cell-again (Int n) rest lawful starts = rw (rest_after_byte-again 32 (signed_decimal n ++ rest)) (int-again n rest lawful starts)
 cell-again (Txt text) rest lawful starts =
     let joined : 34 ∷ (text ++ 34 ∷ []) ++ rest ≡ 34 ∷ text ++ 34 ∷ rest = ap (λ (t : List ℕ). 34 ∷ t) (append_assoc text (34 ∷ []) rest) in
-    rw (behind-again 32 (34 ∷ (text ++ 34 ∷ []) ++ rest)) (ap text_at joined ∙ text-again text rest lawful)
+    rw (rest_after_byte-again 32 (34 ∷ (text ++ 34 ∷ []) ++ rest)) (ap printed_text_at joined ∙ text-again text rest lawful)
 
 -- ---- all cells
 
 abbrev cells_text : List Cell → List ℕ
 cells_text cells = flat_map (λ cell. 32 ∷ cell_text cell) cells
 
-cells-sound : (columns : List CellType) (bytes : List ℕ) (x : List Cell × List ℕ) → cells_at columns bytes ≡ Some x → (bytes ≡ cells_text x.0 ++ x.1) × AllByRecursion IsLawfulCell x.0 × (map type_of x.0 ≡ columns)
-unfolding cells_at
+cells-sound : (columns : List CellType) (bytes : List ℕ) (x : List Cell × List ℕ) → printed_cells_at columns bytes ≡ Some x → (bytes ≡ cells_text x.0 ++ x.1) × AllByRecursion IsLawfulCell x.0 × (map type_of x.0 ≡ columns)
+unfolding printed_cells_at
 cells-sound [] bytes x e = subst (λ (y : List Cell × List ℕ). (bytes ≡ cells_text y.0 ++ y.1) × AllByRecursion IsLawfulCell y.0 × (map type_of y.0 ≡ [])) (some_is ([], bytes) x e) (refl, tt, refl)
 cells-sound (column ∷ columns) bytes x e =
-    let a = bind_some (cell_at column bytes) (λ cell. cells_at columns cell.1 >>= λ cells. Some (cell.0 ∷ cells.0, cells.1)) x e in
-    let b = bind_some (cells_at columns a.0.1) (λ cells. Some (a.0.0 ∷ cells.0, cells.1)) x a.2 in
+    let a = bind_some (printed_cell_at column bytes) (λ cell. printed_cells_at columns cell.1 >>= λ cells. Some (cell.0 ∷ cells.0, cells.1)) x e in
+    let b = bind_some (printed_cells_at columns a.0.1) (λ cells. Some (a.0.0 ∷ cells.0, cells.1)) x a.2 in
     let one = cell-sound column bytes a.0 a.1 in
     let more = cells-sound columns a.0.1 b.0 b.1 in
     let made : List Cell × List ℕ = (a.0.0 ∷ b.0.0, b.0.1) in
@@ -214,28 +214,28 @@ cells-sound (column ∷ columns) bytes x e =
     subst (λ (y : List Cell × List ℕ). (bytes ≡ cells_text y.0 ++ y.1) × AllByRecursion IsLawfulCell y.0 × (map type_of y.0 ≡ column ∷ columns)) (some_is made x b.2)
     (parts, (one.lawful, more.1), ap (λ (t : CellType). t ∷ map type_of b.0.0) one.type ∙ ap (λ (ts : List CellType). column ∷ ts) more.2)
 
-cells_text-starts : (cells : List Cell) → before 32 (cells_text cells) ≡ 0
-unfolding before
+cells_text-starts : (cells : List Cell) → bytes_before 32 (cells_text cells) ≡ 0
+unfolding bytes_before
 cells_text-starts [] = refl
-cells_text-starts (cell ∷ cells) = before-here 32 (cell_text cell ++ cells_text cells)
+cells_text-starts (cell ∷ cells) = bytes_before-here 32 (cell_text cell ++ cells_text cells)
 
-cells-again : (cells : List Cell) → AllByRecursion IsLawfulCell cells → cells_at (map type_of cells) (cells_text cells) ≡ Some (cells, [])
-unfolding cells_at
+cells-again : (cells : List Cell) → AllByRecursion IsLawfulCell cells → printed_cells_at (map type_of cells) (cells_text cells) ≡ Some (cells, [])
+unfolding printed_cells_at
 cells-again [] lawful = refl
 cells-again (cell ∷ cells) lawful = rw (cell-again cell (cells_text cells) lawful.0 (cells_text-starts cells), cells-again cells lawful.1) refl
 
-row-sound : (columns : List CellType) (bytes : List ℕ) (row : List Cell) → row_at columns bytes ≡ Some row → (bytes ≡ cells_text row) × AllByRecursion IsLawfulCell row × (map type_of row ≡ columns)
-unfolding row_at
+row-sound : (columns : List CellType) (bytes : List ℕ) (row : List Cell) → printed_row_at columns bytes ≡ Some row → (bytes ≡ cells_text row) × AllByRecursion IsLawfulCell row × (map type_of row ≡ columns)
+unfolding printed_row_at
 row-sound columns bytes row e =
-    let a = bind_some (cells_at columns bytes) (λ cells. cond (eqb (length cells.1) 0) (Some cells.0) None) row e in
+    let a = bind_some (printed_cells_at columns bytes) (λ cells. cond (eqb (length cells.1) 0) (Some cells.0) None) row e in
     let b = kept (eqb (length a.0.1) 0) (Some a.0.0) row a.2 in
     let s = cells-sound columns bytes a.0 a.1 in
     let nothing : a.0.1 ≡ [] = nil_from_length a.0.1 (eqb-true _ _ b.0) in
     let whole : bytes ≡ cells_text a.0.0 = s.0 ∙ ap (λ (r : List ℕ). cells_text a.0.0 ++ r) nothing ∙ append-nil (cells_text a.0.0) in
     subst (λ (y : List Cell). (bytes ≡ cells_text y) × AllByRecursion IsLawfulCell y × (map type_of y ≡ columns)) (some_is a.0.0 row b.1) (whole, s.1, s.2)
 
-row-again : (columns : List CellType) (row : List Cell) → AllByRecursion IsLawfulCell row → map type_of row ≡ columns → row_at columns (cells_text row) ≡ Some row
-unfolding row_at
+row-again : (columns : List CellType) (row : List Cell) → AllByRecursion IsLawfulCell row → map type_of row ≡ columns → printed_row_at columns (cells_text row) ≡ Some row
+unfolding printed_row_at
 row-again columns row lawful fits = rw (sym fits, cells-again row lawful) refl
 
 -- ---- tables
@@ -243,8 +243,8 @@ row-again columns row lawful fits = rw (sym fits, cells-again row lawful) refl
 abbrev Named : ℕ → ℕ → List ℕ → List TableDef → Type 0
 Named n k name tables = (n ≤ k) × ((table : TableDef) → slice_get tables (k - n) ≡ Some table → table.name ≡ name)
 
-named-step : (n k : ℕ) (name : List ℕ) (first : TableDef) (tables : List TableDef) → (table_from (n + 1) name tables ≡ Some k → Named (n + 1) k name tables)
-    → (b : Bool) → bytes_eq first.name name ≡ b → cond b (Some n) (table_from (n + 1) name tables) ≡ Some k → Named n k name (first ∷ tables)
+named-step : (n k : ℕ) (name : List ℕ) (first : TableDef) (tables : List TableDef) → (table_number_from (n + 1) name tables ≡ Some k → Named (n + 1) k name tables)
+    → (b : Bool) → bytes_eq first.name name ≡ b → cond b (Some n) (table_number_from (n + 1) name tables) ≡ Some k → Named n k name (first ∷ tables)
 named-step n k name first tables later true same e =
     let here : n ≡ k = some_is n k e in
     let none : k - n ≡ 0 = omega arith in (
@@ -261,21 +261,21 @@ named-step n k name first tables later false other e =
       λ table at. more.1 table (ap (slice_get (first ∷ tables)) (sym less) ∙ at),
     )
 
-table-sound : (n k : ℕ) (name : List ℕ) (tables : List TableDef) → table_from n name tables ≡ Some k → Named n k name tables
+table-sound : (n k : ℕ) (name : List ℕ) (tables : List TableDef) → table_number_from n name tables ≡ Some k → Named n k name tables
 table-sound n k name [] e = absurd cc
 table-sound n k name (first ∷ tables) e = named-step n k name first tables (table-sound (n + 1) k name tables) (bytes_eq first.name name) refl e
 
-again-step : (n k : ℕ) (table first : TableDef) (tables : List TableDef) → table_of first.name tables ≡ None → ((m : ℕ) → table_from m table.name tables ≡ Some (m + k))
-    → (b : Bool) → bytes_eq first.name table.name ≡ b → cond b (Some n) (table_from (n + 1) table.name tables) ≡ Some (n + suc k)
+again-step : (n k : ℕ) (table first : TableDef) (tables : List TableDef) → table_number first.name tables ≡ None → ((m : ℕ) → table_number_from m table.name tables ≡ Some (m + k))
+    → (b : Bool) → bytes_eq first.name table.name ≡ b → cond b (Some n) (table_number_from (n + 1) table.name tables) ≡ Some (n + suc k)
 again-step n k table first tables free later true same =
-    let free_too : table_from 0 table.name tables ≡ None = ap (λ (name : List ℕ). table_from 0 name tables) (sym ((bytes_eq-Decides first.name table.name).0 same)) ∙ free in
+    let free_too : table_number_from 0 table.name tables ≡ None = ap (λ (name : List ℕ). table_number_from 0 name tables) (sym ((bytes_eq-Decides first.name table.name).0 same)) ∙ free in
     let clash : Some (0 + k) ≡ None = sym (later 0) ∙ free_too in
     absurd cc
 again-step n k table first tables free later false other =
     let sum : (n + 1) + k ≡ n + suc k = omega arith in
     later (n + 1) ∙ ap (λ (m : ℕ). Some m) sum
 
-table-again : (n k : ℕ) (table : TableDef) (tables : List TableDef) → HaveNames tables → slice_get tables k ≡ Some table → table_from n table.name tables ≡ Some (n + k)
+table-again : (n k : ℕ) (table : TableDef) (tables : List TableDef) → HaveNames tables → slice_get tables k ≡ Some table → table_number_from n table.name tables ≡ Some (n + k)
 table-again n k table [] names at = absurd cc
 table-again n zero table (first ∷ tables) names at =
     let this : first ≡ table = some_is first table at in
@@ -284,13 +284,13 @@ table-again n zero table (first ∷ tables) names at =
     rw same (ap (λ (m : ℕ). Some m) sum)
 table-again n (suc k) table (first ∷ tables) names at = again-step n k table first tables names.0 (λ m. table-again m k table tables names.1 at) (bytes_eq first.name table.name) refl
 
-table_of-named : (k : ℕ) (name : List ℕ) (table : TableDef) (tables : List TableDef) → table_of name tables ≡ Some k → slice_get tables k ≡ Some table → table.name ≡ name
-table_of-named k name table tables e at =
+table_number-named : (k : ℕ) (name : List ℕ) (table : TableDef) (tables : List TableDef) → table_number name tables ≡ Some k → slice_get tables k ≡ Some table → table.name ≡ name
+table_number-named k name table tables e at =
     let same : k - 0 ≡ k = omega arith in
     (table-sound 0 k name tables e).1 table (ap (slice_get tables) same ∙ at)
 
-table_of-again : (k : ℕ) (table : TableDef) (tables : List TableDef) → HaveNames tables → slice_get tables k ≡ Some table → table_of table.name tables ≡ Some k
-table_of-again k table tables names at =
+table_number-again : (k : ℕ) (table : TableDef) (tables : List TableDef) → HaveNames tables → slice_get tables k ≡ Some table → table_number table.name tables ≡ Some k
+table_number-again k table tables names at =
     let same : 0 + k ≡ k = omega arith in
     table-again 0 k table tables names at ∙ ap (λ (m : ℕ). Some m) same
 
@@ -303,70 +303,70 @@ match-of : (found : Option TableDef) (P : TableDef → Type 0) → MatchOption f
 match-of (Some table) P p = (table, refl, p)
 match-of None P p = absurd p
 
-line-sound : (tables : List TableDef) (line : List ℕ) (entry : RowEntry) → line_at tables line ≡ Some entry → (line ≡ line_text tables entry) × IsRowOf tables entry
-unfolding line_at entry_at
+line-sound : (tables : List TableDef) (line : List ℕ) (entry : RowEntry) → printed_line_at tables line ≡ Some entry → (line ≡ line_text tables entry) × IsRowOf tables entry
+unfolding printed_line_at printed_entry_at
 line-sound tables line entry e =
-    let n = before 32 line in
+    let n = bytes_before 32 line in
     let rest = drop n line in
-    let a = bind_some (table_of (take n line) tables) (λ number. entry_at tables number rest) entry e in
+    let a = bind_some (table_number (take n line) tables) (λ number. printed_entry_at tables number rest) entry e in
     let number = a.0 in
-    let b = bind_some (slice_get tables number) (λ table. behind 32 rest >>= λ bytes. or_none (checked_bytes 1 32 is_key_byte (take (before 32 bytes) bytes)) >>= λ key. row_at table.columns (drop (before 32 bytes) bytes) >>= λ row. Some (record { name = record { table = number; key = key }; row = row })) entry a.2 in
+    let b = bind_some (slice_get tables number) (λ table. rest_after_byte 32 rest >>= λ bytes. or_none (checked_bytes 1 32 is_key_byte (take (bytes_before 32 bytes) bytes)) >>= λ key. printed_row_at table.columns (drop (bytes_before 32 bytes) bytes) >>= λ row. Some (record { name = record { table = number; key = key }; row = row })) entry a.2 in
     let table = b.0 in
-    let d = bind_some (behind 32 rest) (λ bytes. or_none (checked_bytes 1 32 is_key_byte (take (before 32 bytes) bytes)) >>= λ key. row_at table.columns (drop (before 32 bytes) bytes) >>= λ row. Some (record { name = record { table = number; key = key }; row = row })) entry b.2 in
+    let d = bind_some (rest_after_byte 32 rest) (λ bytes. or_none (checked_bytes 1 32 is_key_byte (take (bytes_before 32 bytes) bytes)) >>= λ key. printed_row_at table.columns (drop (bytes_before 32 bytes) bytes) >>= λ row. Some (record { name = record { table = number; key = key }; row = row })) entry b.2 in
     let bytes = d.0 in
-    let m = before 32 bytes in
-    let f = bind_some (or_none (checked_bytes 1 32 is_key_byte (take m bytes))) (λ key. row_at table.columns (drop m bytes) >>= λ row. Some (record { name = record { table = number; key = key }; row = row })) entry d.2 in
+    let m = bytes_before 32 bytes in
+    let f = bind_some (or_none (checked_bytes 1 32 is_key_byte (take m bytes))) (λ key. printed_row_at table.columns (drop m bytes) >>= λ row. Some (record { name = record { table = number; key = key }; row = row })) entry d.2 in
     let key = f.0 in
-    let g = bind_some (row_at table.columns (drop m bytes)) (λ row. Some (record { name = record { table = number; key = key }; row = row })) entry f.2 in
+    let g = bind_some (printed_row_at table.columns (drop m bytes)) (λ row. Some (record { name = record { table = number; key = key }; row = row })) entry f.2 in
     let row = g.0 in
     let made : RowEntry = record { name = record { table = number; key = key }; row = row } in
-    let named : table.name ≡ take n line = table_of-named number (take n line) table tables a.1 b.1 in
+    let named : table.name ≡ take n line = table_number-named number (take n line) table tables a.1 b.1 in
     let checked = checked-sound 1 32 is_key_byte (take m bytes) key f.1 in
     let cells = row-sound table.columns (drop m bytes) row g.1 in
     let tail : bytes ≡ key ++ cells_text row = sym (take-append-drop m bytes) ∙ ap (λ (t : List ℕ). t ++ drop m bytes) (sym checked.0) ∙ ap (λ (t : List ℕ). key ++ t) cells.0 in
-    let name : name_in (slice_get tables number) ≡ take n line = ap name_in b.1 ∙ named in
+    let name : table_name_text (slice_get tables number) ≡ take n line = ap table_name_text b.1 ∙ named in
     let text : line ≡ line_text tables made =
     sym (take-append-drop n line)
     ∙ ap (λ (t : List ℕ). t ++ rest) (sym name)
-    ∙ ap (λ (t : List ℕ). name_in (slice_get tables number) ++ t) (behind-sound 32 rest bytes d.1 ∙ ap (λ (t : List ℕ). 32 ∷ t) tail)
-    ∙ sym (append_assoc (name_in (slice_get tables number)) (32 ∷ key) (cells_text row)) in
+    ∙ ap (λ (t : List ℕ). table_name_text (slice_get tables number) ++ t) (rest_after_byte-sound 32 rest bytes d.1 ∙ ap (λ (t : List ℕ). 32 ∷ t) tail)
+    ∙ sym (append_assoc (table_name_text (slice_get tables number)) (32 ∷ key) (cells_text row)) in
     subst (λ (y : RowEntry). (line ≡ line_text tables y) × IsRowOf tables y) (some_is made entry g.2)
-    (text, record { key = checked.1; cells = cells.1; types = matched (slice_get tables number) table (λ t. map type_of row ≡ t.columns) b.1 cells.2 })
+    (text, record { key = checked.1; cells = cells.1; fits = matched (slice_get tables number) table (λ t. map type_of row ≡ t.columns) b.1 cells.2 })
 
-line-again : (tables : List TableDef) (entry : RowEntry) → IsSchema tables → ((number : ℕ) (table : TableDef) → slice_get tables number ≡ Some table → IsTableName table.name) → IsRowOf tables entry → line_at tables (line_text tables entry) ≡ Some entry
-unfolding line_at entry_at
+line-again : (tables : List TableDef) (entry : RowEntry) → IsSchema tables → ((number : ℕ) (table : TableDef) → slice_get tables number ≡ Some table → IsTableName table.name) → IsRowOf tables entry → printed_line_at tables (line_text tables entry) ≡ Some entry
+unfolding printed_line_at printed_entry_at
 line-again tables entry schema names is =
     let number = entry.name.table in
     let key = entry.name.key in
     let row = entry.row in
-    let t = match-of (slice_get tables number) (λ table. map type_of row ≡ table.columns) is.types in
+    let t = match-of (slice_get tables number) (λ table. map type_of row ≡ table.columns) is.fits in
     let table = t.0 in
     let named = names number table t.1 in
     let tail = key ++ cells_text row in
     let free = all-other is_name_byte (other 32) name_byte-other table.name named.each in
-    let starts = before-here 32 tail in
+    let starts = bytes_before-here 32 tail in
     let front = cut-front 32 table.name (32 ∷ tail) free starts in
     let back = cut-rest 32 table.name (32 ∷ tail) free starts in
-    let found : table_of table.name tables ≡ Some number = table_of-again number table tables schema.names t.1 in
+    let found : table_number table.name tables ≡ Some number = table_number-again number table tables schema.names t.1 in
     let key_free = all-other is_key_byte (other 32) key_byte-other key is.key.each in
     let key_front = cut-front 32 key (cells_text row) key_free (cells_text-starts row) in
     let key_back = cut-rest 32 key (cells_text row) key_free (cells_text-starts row) in
-    let name : line_text tables entry ≡ table.name ++ 32 ∷ tail = append_assoc (name_in (slice_get tables number)) (32 ∷ key) (cells_text row) ∙ ap (λ (r : Option TableDef). name_in r ++ 32 ∷ tail) t.1 in
-    rw (name, front, back, found, t.1, behind-again 32 tail, key_front, key_back, checked-again 1 32 is_key_byte key is.key, row-again table.columns row is.cells t.2) refl
+    let name : line_text tables entry ≡ table.name ++ 32 ∷ tail = append_assoc (table_name_text (slice_get tables number)) (32 ∷ key) (cells_text row) ∙ ap (λ (r : Option TableDef). table_name_text r ++ 32 ∷ tail) t.1 in
+    rw (name, front, back, found, t.1, rest_after_byte-again 32 tail, key_front, key_back, checked-again 1 32 is_key_byte key is.key, row-again table.columns row is.cells t.2) refl
 
 -- ---- what a function returned that reads so
 
-pub found-in : (tables schema : List TableDef) (line : List ℕ) (r : Option RowEntry) → tables ≡ schema → r ≡ line_at tables line → IfSome r (λ entry. (line ≡ line_text schema entry) × IsRowOf schema entry)
+pub found-in : (tables schema : List TableDef) (line : List ℕ) (r : Option RowEntry) → tables ≡ schema → r ≡ printed_line_at tables line → IfSome r (λ entry. (line ≡ line_text schema entry) × IsRowOf schema entry)
 found-in tables schema line (Some entry) same e = subst (λ (t : List TableDef). (line ≡ line_text t entry) × IsRowOf t entry) same (line-sound tables line entry (sym e))
 found-in tables schema line None same e = tt
 
-pub only-in : (tables schema : List TableDef) (line : List ℕ) (r : Option RowEntry) → tables ≡ schema → IsSchema schema → ((number : ℕ) (table : TableDef) → slice_get tables number ≡ Some table → IsTableName table.name) → r ≡ line_at tables line
+pub only-in : (tables schema : List TableDef) (line : List ℕ) (r : Option RowEntry) → tables ≡ schema → IsSchema schema → ((number : ℕ) (table : TableDef) → slice_get tables number ≡ Some table → IsTableName table.name) → r ≡ printed_line_at tables line
     → (entry : RowEntry) → IsRowOf schema entry → line ≡ line_text schema entry → r ≡ Some entry
 only-in tables schema line r same is_schema names e entry is text =
     let found = line-again tables entry (subst IsSchema (sym same) is_schema) names (subst (λ (t : List TableDef). IsRowOf t entry) (sym same) is) in
-    e ∙ ap (line_at tables) (text ∙ ap (λ (t : List TableDef). line_text t entry) (sym same)) ∙ found
+    e ∙ ap (printed_line_at tables) (text ∙ ap (λ (t : List TableDef). line_text t entry) (sym same)) ∙ found
 
-pub none-in : (tables schema : List TableDef) (line : List ℕ) (r : Option RowEntry) → tables ≡ schema → IsSchema schema → ((number : ℕ) (table : TableDef) → slice_get tables number ≡ Some table → IsTableName table.name) → r ≡ line_at tables line
+pub none-in : (tables schema : List TableDef) (line : List ℕ) (r : Option RowEntry) → tables ≡ schema → IsSchema schema → ((number : ℕ) (table : TableDef) → slice_get tables number ≡ Some table → IsTableName table.name) → r ≡ printed_line_at tables line
     → IfNone r ((entry : RowEntry) → IsRowOf schema entry → line ≡ line_text schema entry → ⊥)
 none-in tables schema line (Some x) same is_schema names e = tt
 none-in tables schema line None same is_schema names e = λ entry is text. let clash = only-in tables schema line None same is_schema names e entry is text in cc

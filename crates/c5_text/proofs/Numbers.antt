@@ -1,6 +1,6 @@
 -- A number is read from the text that writes it, and from no other.
 use lib.Signed.{mag}
-use Rattle.std.proofs.Common.{◌≡◌, ◌∙◌, ℕ, ℤ, pos, negsuc, suc, ◌^◌, ◌<◌, true, false, ◌&&◌, eqb, ltb, List, get_or, Option, Some, None, Ok, Err, refl, sym, ap, subst, arith, w64}
+use Rattle.std.proofs.Common.{◌≡◌, ◌∙◌, ℕ, ℤ, pos, negsuc, suc, ◌^◌, ◌<◌, true, false, ◌&&◌, eqb, ltb, List, get_or, Option, Some, None, Result, Ok, Err, refl, sym, ap, subst, arith, w64}
 use Rattle.std.specs.Prelude.{FitsSigned}
 use Rattle.std.specs.Fmt.{decimal, signed_decimal}
 use Rattle.std.specs.Str.{bytes_eq}
@@ -9,14 +9,17 @@ use Rattle.std.proofs.lemmas.Bool.{ltb-true, lt-ltb}
 use Rattle.std.proofs.lemmas.Slice.Eq.{bytes_eq-Decides}
 use Rattle.std.proofs.lemmas.Fmt.{decimal_is_IsNumeral}
 use Rattle.std.proofs.lemmas.Str.Parse.{numerals_by_value, tells_digits, not_in_digits, without_leading_plus_none}
-use Rattle.c5_text.specs.Reading.{int_of}
+use Rattle.c5_text.specs.Reading.{printed_int_of}
 use Rattle.c5_text.proofs.Steps.{kept, both, some_is, ne-eqb}
 
 pub err_is_not_ok : {A E : Type 0} (error : E) (x : A) → Err error ≡ Ok x → ⊥
 err_is_not_ok error x e = absurd cc
 
-pub int_of-sound : (bytes : List ℕ) (n : ℤ) → int_of bytes ≡ Some n → (bytes ≡ signed_decimal n) × FitsSigned w64 n
-unfolding int_of
+pub ok_is : {A E : Type 0} (x y : A) → ◌≡◌ {A = Result A E} (Ok x) (Ok y) → x ≡ y
+ok_is x y e = cc
+
+pub int_of-sound : (bytes : List ℕ) (n : ℤ) → printed_int_of bytes ≡ Some n → (bytes ≡ signed_decimal n) × FitsSigned w64 n
+unfolding printed_int_of
 int_of-sound bytes n e =
     let z = signed_digits_value 10 bytes in
     let a = kept (ltb (mag z) (2 ^ 63) && bytes_eq (signed_decimal z) bytes) (Some z) n e in
@@ -28,8 +31,8 @@ none_is : (r : Option ℤ) → ((n : ℤ) → r ≡ Some n → ⊥) → None ≡
 none_is (Some n) never = absurd (never n refl)
 none_is None never = refl
 
-pub int_of-none : (bytes : List ℕ) → ((n : ℤ) → FitsSigned w64 n → bytes ≡ signed_decimal n → ⊥) → None ≡ int_of bytes
-int_of-none bytes never = none_is (int_of bytes) (λ n e. let s = int_of-sound bytes n e in never n s.1 s.0)
+pub int_of-none : (bytes : List ℕ) → ((n : ℤ) → FitsSigned w64 n → bytes ≡ signed_decimal n → ⊥) → None ≡ printed_int_of bytes
+int_of-none bytes never = none_is (printed_int_of bytes) (λ n e. let s = int_of-sound bytes n e in never n s.1 s.0)
 
 value-plain : (n : ℕ) → n < 2 ^ 63 → signed_digits_value 10 (decimal n) ≡ pos n
 value-plain n small =
@@ -46,8 +49,8 @@ value-signed (negsuc n) fits =
     let k = decimal_is_IsNumeral (suc n) (omega (arith, fits.sfits)) in
     rw (k.1) refl
 
-pub int_of-again : (n : ℤ) → FitsSigned w64 n → int_of (signed_decimal n) ≡ Some n
-unfolding int_of
+pub int_of-again : (n : ℤ) → FitsSigned w64 n → printed_int_of (signed_decimal n) ≡ Some n
+unfolding printed_int_of
 int_of-again n fits =
     let value = value-signed n fits in
     let small : ltb (mag n) (2 ^ 63) ≡ true = lt-ltb (mag n) (2 ^ 63) fits.sfits in

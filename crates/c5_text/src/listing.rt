@@ -28,7 +28,8 @@ pub fn rows_text(alloc: Global, schema: &Schema, rows: &[RowEntry]) -> Result<Ve
     let tables = schema.tables();
     let mut text = Vec::new(alloc);
     for entry in rows {
-        push_row(&mut text, tables, entry)?;
+        push_row(&mut text, tables, &entry.name, &entry.row)?;
+        text.push(b'\n')?;
     }
     push_count(&mut text, rows.len())?;
     Ok(text)

@@ -1,19 +1,23 @@
 //! Reading the line of a row.
 
 ghost use Rattle.std.specs.Prelude.{◌≡◌, ◌≤◌, length, ℕ, Some, IfSome, IfNone, slice_get};
-ghost use Rattle.c5_rows.specs.Tables.{IsSchema, table_of};
+ghost use Rattle.c5_rows.specs.Sizes.{max_columns};
+ghost use Rattle.c5_rows.specs.Tables.{IsSchema};
 ghost use Rattle.c5_rows.specs.Bytes.{IsTableName};
 ghost use Rattle.c5_rows.specs.declared.rows.RowEntry.{RowEntry};
 ghost use Rattle.c5_definitions.specs.Texts.{line_text, IsRowOf};
-ghost use Rattle.c5_text.specs.Reading.{Finds, before, behind, int_of, int_at, text_at, cell_at, row_at, entry_at, line_at};
+ghost use Rattle.c5_text.specs.Reading.{GivesOption, bytes_before, rest_after_byte, printed_int_of, printed_int_at, printed_text_at, printed_cell_at, printed_row_at, printed_entry_at, printed_line_at};
 
-use c5_rows::{Cell, CellType, Key, Row, RowEntry, RowName, Schema, TableDef, TextCell};
+use c5_rows::{
+    Cell, CellType, Key, MAX_COLUMNS, Row, RowEntry, RowName, Schema, TableDef, TextCell,
+    find_table,
+};
 use itoa::Buffer;
 
 // How many bytes stand before the first byte `stop`; all of them where there is none.
-#[tactic(auto, unfolding(crate::specs::Reading::before))]
-fn count_before(stop: u8, bytes: &[u8]) -> usize
-    ensures value { result ≡ before stop bytes.now }
+#[tactic(auto, unfolding(crate::specs::Reading::bytes_before))]
+pub(crate) fn count_before(stop: u8, bytes: &[u8]) -> usize
+    ensures value { result ≡ bytes_before stop bytes.now }
     ensures within { result ≤ length bytes.now }
 {
     for (count, byte) in bytes.iter().enumerate() {
@@ -25,9 +29,9 @@ fn count_before(stop: u8, bytes: &[u8]) -> usize
 }
 
 // The bytes behind the byte `first`.
-#[tactic(auto, unfolding(crate::specs::Reading::behind))]
-fn behind(first: u8, bytes: &[u8]) -> Option<&[u8]>
-    ensures { Finds (λ x. x.now) result (behind first bytes.now) }
+#[tactic(auto, unfolding(crate::specs::Reading::rest_after_byte))]
+pub(crate) fn behind(first: u8, bytes: &[u8]) -> Option<&[u8]>
+    ensures { GivesOption (λ x. x.now) result (rest_after_byte first bytes.now) }
 {
     match bytes {
         [byte, rest @ ..] if *byte == first => Some(rest),
@@ -36,9 +40,9 @@ fn behind(first: u8, bytes: &[u8]) -> Option<&[u8]>
 }
 
 // The number that is written so, and in no other way.
-#[tactic(auto, unfolding(crate::specs::Reading::int_of))]
+#[tactic(auto, unfolding(crate::specs::Reading::printed_int_of))]
 fn int_in(bytes: &[u8]) -> Option<i64>
-    ensures { result ≡ int_of bytes.now }
+    ensures { result ≡ printed_int_of bytes.now }
 {
     let Ok(text) = std::str::from_utf8(bytes) else {
         return None;
@@ -52,9 +56,9 @@ fn int_in(bytes: &[u8]) -> Option<i64>
     Some(number)
 }
 
-#[tactic(auto, unfolding(crate::specs::Reading::int_at))]
+#[tactic(auto, unfolding(crate::specs::Reading::printed_int_at))]
 fn int_cell(bytes: &[u8]) -> Option<(Cell, &[u8])>
-    ensures { Finds (λ x. (x.0, x.1.now)) result (int_at bytes.now) }
+    ensures { GivesOption (λ x. (x.0, x.1.now)) result (printed_int_at bytes.now) }
 {
     let (digits, rest) = bytes.split_at(count_before(b' ', bytes));
     match int_in(digits) {
@@ -63,9 +67,9 @@ fn int_cell(bytes: &[u8]) -> Option<(Cell, &[u8])>
     }
 }
 
-#[tactic(auto, unfolding(crate::specs::Reading::text_at))]
+#[tactic(auto, unfolding(crate::specs::Reading::printed_text_at))]
 fn text_cell(quoted: &[u8]) -> Option<(Cell, &[u8])>
-    ensures { Finds (λ x. (x.0, x.1.now)) result (text_at quoted.now) }
+    ensures { GivesOption (λ x. (x.0, x.1.now)) result (printed_text_at quoted.now) }
 {
     let Some(bytes) = behind(b'"', quoted) else {
         return None;
@@ -81,9 +85,9 @@ fn text_cell(quoted: &[u8]) -> Option<(Cell, &[u8])>
 }
 
 // A blank and a cell, and the bytes after them.
-#[tactic(auto, unfolding(crate::specs::Reading::cell_at))]
+#[tactic(auto, unfolding(crate::specs::Reading::printed_cell_at))]
 fn cell_in(cell_type: CellType, bytes: &[u8]) -> Option<(Cell, &[u8])>
-    ensures { Finds (λ x. (x.0, x.1.now)) result (cell_at cell_type bytes.now) }
+    ensures { GivesOption (λ x. (x.0, x.1.now)) result (printed_cell_at cell_type bytes.now) }
 {
     let Some(bytes) = behind(b' ', bytes) else {
         return None;
@@ -97,10 +101,10 @@ fn cell_in(cell_type: CellType, bytes: &[u8]) -> Option<(Cell, &[u8])>
 // The row whose cells, one for each column, are exactly these bytes.
 fn row_in(columns: &[CellType], bytes: &[u8]) -> Option<Row>
     requires some { 1 ≤ length columns.now }
-    requires at_most_eight { length columns.now ≤ 8 }
-    ensures { result ≡ row_at columns.now bytes.now }
+    requires few { length columns.now ≤ max_columns }
+    ensures { result ≡ printed_row_at columns.now bytes.now }
 {
-    let mut cells = [Cell::Int(0); 8];
+    let mut cells = [Cell::Int(0); MAX_COLUMNS];
     let mut rest = bytes;
     for (column, cell_type) in columns.iter().enumerate() {
         let (cell, after) = match cell_in(*cell_type, rest) {
@@ -116,23 +120,10 @@ fn row_in(columns: &[CellType], bytes: &[u8]) -> Option<Row>
     Row::new(&cells[..columns.len()])
 }
 
-// The number of the table of this name.
-fn table_named(name: &[u8], tables: &[TableDef]) -> Option<u8>
-    requires { IsSchema tables.now }
-    ensures { result ≡ table_of name.now tables.now }
-{
-    for (number, table) in tables.iter().enumerate() {
-        if table.name.bytes() == name {
-            return Some(number as u8);
-        }
-    }
-    None
-}
-
 // The row of which this stands behind the table's name.
-#[tactic(auto, unfolding(crate::specs::Reading::entry_at))]
+#[tactic(auto, unfolding(crate::specs::Reading::printed_entry_at))]
 fn entry_in(tables: &[TableDef], number: u8, rest: &[u8]) -> Option<RowEntry>
-    ensures { result ≡ entry_at tables.now number rest.now }
+    ensures { result ≡ printed_entry_at tables.now number rest.now }
 {
     let Some(table) = tables.get(number as usize) else {
         return None;
@@ -151,13 +142,13 @@ fn entry_in(tables: &[TableDef], number: u8, rest: &[u8]) -> Option<RowEntry>
     Some(RowEntry { name, row })
 }
 
-#[tactic(auto, unfolding(crate::specs::Reading::line_at))]
+#[tactic(auto, unfolding(crate::specs::Reading::printed_line_at))]
 fn line_in(tables: &[TableDef], line: &[u8]) -> Option<RowEntry>
     requires { IsSchema tables.now }
-    ensures { result ≡ line_at tables.now line.now }
+    ensures { result ≡ printed_line_at tables.now line.now }
 {
     let (name, rest) = line.split_at(count_before(b' ', line));
-    let Some(number) = table_named(name, tables) else {
+    let Some(number) = find_table(tables, name) else {
         return None;
     };
     entry_in(tables, number, rest)

@@ -1,6 +1,10 @@
-use crate::{read_row, rows_text};
+use crate::{
+    ReplyHead, TextFault, order_text, read_head, read_order, read_row, reply_text, rows_text,
+};
+use c5_definitions::{lines_of_replies, one_order_and_places};
 use c5_rows::{
-    Cell, CellType, Columns, Key, Row, RowEntry, RowName, Schema, TableDef, TableName, TextCell,
+    Answer, AnswerLine, Cell, CellType, Columns, Key, Reply, Row, RowEntry, RowName, Schema,
+    TableDef, TableName, TextCell,
 };
 use std::test::Fail;
 
@@ -145,5 +149,141 @@ fn lines_of_no_row(rt: HostRuntime) -> Result<(), Fail> {
     ] {
         assert!(rt; read_row(schema, line.as_bytes()).is_none(), "{line}");
     }
+    Ok(())
+}
+
+#[test]
+fn orders(rt: HostRuntime) -> Result<(), Fail> {
+    for (scripts, want) in [
+        ([].as_slice(), "order\n"),
+        ([0].as_slice(), "order 0\n"),
+        ([2, 0, 1].as_slice(), "order 2 0 1\n"),
+        ([u32::MAX, 10].as_slice(), "order 4294967295 10\n"),
+    ] {
+        let text = order_text(rt.alloc(), scripts)?;
+        assert_eq!(rt; text.as_slice(), want.as_bytes());
+        let read = read_order(rt.alloc(), want.trim_end().as_bytes())?;
+        assert_eq!(rt; read.as_slice(), scripts);
+    }
+    Ok(())
+}
+
+#[test]
+fn lines_of_no_order(rt: HostRuntime) -> Result<(), Fail> {
+    for line in [
+        "",
+        "orde",
+        "orders",
+        "Order 1",
+        " order",
+        "order ",
+        "order 2 0 ",
+        "order 02",
+        "order 1  2",
+        "order 4294967296",
+        "order -1",
+        "order +1",
+        "order 1\n",
+        "order 1,2",
+        "order1",
+    ] {
+        let read = read_order(rt.alloc(), line.as_bytes());
+        assert!(rt; matches!(read, Err(TextFault::NotOne)), "{line}");
+    }
+    Ok(())
+}
+
+#[test]
+fn replies(rt: HostRuntime) -> Result<(), Fail> {
+    let schema = Schema::one(table(b"acct")?);
+    let name = entry(0, b"a", &[Cell::Int(0)])?.name;
+    let row = Row::new(&[Cell::Int(-7)]).ok_or("no row")?;
+    for (session, place, total, line, want) in [
+        (
+            1,
+            0,
+            0,
+            AnswerLine::Absent { name },
+            "read 1 place 0 lag 0\nacct a -\n",
+        ),
+        (
+            2,
+            1,
+            3,
+            AnswerLine::Found { name, row },
+            "read 2 place 1 lag 2\nacct a -7\n",
+        ),
+        (
+            16,
+            3,
+            3,
+            AnswerLine::Sum(800),
+            "read 16 place 3 lag 0\nsum 800\n",
+        ),
+        (
+            1,
+            0,
+            1,
+            AnswerLine::Sum(-147_573_952_589_676_412_928),
+            "read 1 place 0 lag 1\nsum -147573952589676412928\n",
+        ),
+    ] {
+        assert!(rt; place <= total);
+        let mut answer = Answer::new(rt.alloc());
+        answer.push(line)?;
+        let reply = Reply {
+            session,
+            place,
+            answer,
+        };
+        let text = reply_text(rt.alloc(), &schema, &reply, total)?;
+        assert_eq!(rt; text.as_slice(), want.as_bytes());
+    }
+    Ok(())
+}
+
+#[test]
+fn heads(rt: HostRuntime) -> Result<(), Fail> {
+    for (line, want) in [
+        ("read 1 place 2 lag 1", Some((1, 2, 1))),
+        ("read 16 place 0 lag 4294967295", Some((16, 0, u32::MAX))),
+        ("read 1 place 2 lag 1 ", None),
+        ("read 1 place 2 lag 1\n", None),
+        ("read 1 place 2 lag 01", None),
+        ("read 1 place 2 lag 4294967296", None),
+        ("read 1 place 2 lag -1", None),
+        ("read 1 place 2", None),
+        ("read 1 lag 1 place 2", None),
+        ("read 1  place 2 lag 1", None),
+        ("read place 2 lag 1", None),
+        ("", None),
+    ] {
+        let want = want.map(|(session, place, lag)| ReplyHead {
+            session,
+            place,
+            lag,
+        });
+        assert!(rt; read_head(line.as_bytes()) == want, "{line}");
+    }
+    Ok(())
+}
+
+// The text of one order and the places 0 and 2, and what its lines give back.
+#[test]
+fn an_output_read_back(rt: HostRuntime) -> Result<(), Fail> {
+    one_order_and_places();
+    lines_of_replies();
+    let mut lines =
+        "order 1 0\nread 1 place 0 lag 2\nacct a -\nread 1 place 2 lag 0\nacct a 10\nacct a 10\nrows 1\n".lines();
+    let order = read_order(rt.alloc(), lines.next().ok_or("no order")?.as_bytes())?;
+    assert_eq!(rt; order.as_slice(), [1, 0].as_slice());
+    for place in [0, 2] {
+        let head = read_head(lines.next().ok_or("no head")?.as_bytes()).ok_or("no head")?;
+        assert_eq!(rt; head.place, place);
+        assert!(rt; lines.next().is_some());
+    }
+    let schema = Schema::one(table(b"acct")?);
+    let row = read_row(&schema, lines.next().ok_or("no row")?.as_bytes());
+    assert!(rt; row == Some(entry(0, b"a", &[Cell::Int(10)])?));
     Ok(())
 }

@@ -1,6 +1,6 @@
 use Rattle.std.proofs.Common.{◌∙◌, ap, sym, subst, List, ℕ}
 use Rattle.c5_definitions.specs.Items.{after_bytes, at_start}
-use Rattle.c5_frames.specs.Progress.{IsReady, state_of}
+use Rattle.c5_frames.specs.DecoderStates.{IsReady, decoded_state}
 use Rattle.c5_frames.proofs.Fed.{ready-more, reads-part}
 use Rattle.c5_frames.proofs.decoder.feed_whole.Goals as goal
 
@@ -12,5 +12,5 @@ take_items-requires c =
 pub returns-in-Ok-take_items-clause-feeds : goal.returns-in-Ok-take_items-clause-feeds
 returns-in-Ok-take_items-clause-feeds c =
     let ready = c.in-Ok-take_items.ensures.ready in
-    let read = reads-part c.deref.result.now (state_of c.take_items.new.p) ready.tracks c.in-Ok-take_items.ensures.part in
+    let read = reads-part c.deref.result.now (decoded_state c.take_items.new.p) ready.tracks c.in-Ok-take_items.ensures.part in
     (c.in-Ok.ensures.ok, _, ap (after_bytes at_start) (sym c.deref.ensures.value) ∙ read)

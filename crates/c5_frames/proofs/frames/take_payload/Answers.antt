@@ -1,7 +1,7 @@
 use Rattle.std.proofs.Common.{◌≡◌, ◌∙◌, ap, sym, List, Err}
 use Rattle.c5_rows.specs.declared.tables.TableDef.{TableDef}
 use Rattle.c5_frames.specs.Payloads.{shown_at}
-use Rattle.c5_frames.specs.Progress.{tables_of}
+use Rattle.c5_frames.specs.DecoderStates.{tables_of}
 use Rattle.c5_frames.proofs.Tracking.{item_at}
 use Rattle.c5_frames.proofs.Ready.{Takes, fault-payload}
 use Rattle.c5_frames.proofs.frames.take_payload.Goals as goal

@@ -1,6 +1,6 @@
 use Rattle.std.proofs.Common.{◌+◌, ◌-◌, length, sym, ◌∙◌, arith}
 use Rattle.c5_frames.specs.Payloads.{name_of}
-use Rattle.c5_frames.specs.Progress.{tables_of}
+use Rattle.c5_frames.specs.DecoderStates.{tables_of}
 use Rattle.c5_frames.proofs.Tracking.{HasRoom-less}
 use Rattle.c5_frames.proofs.Ready.{Takes, tracks, least-size, ready-written, fault-order}
 use Rattle.c5_frames.proofs.frames.take_write.Goals as goal

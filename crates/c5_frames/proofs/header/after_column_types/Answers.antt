@@ -1,12 +1,12 @@
 use Rattle.std.proofs.Common.{◌≡◌, ◌∙◌, ◌-◌, ◌++◌, ◌∷◌, ℕ, eqb, List, [], Ok, sym, ap, cond, refl}
 use Rattle.c5_rows.specs.declared.cells.CellType.{CellType}
 use Rattle.c5_rows.specs.declared.tables.TableDef.{TableDef}
-use Rattle.c5_definitions.specs.Items.{Item, column_types, frame_length, name_length, types_in, after_item}
+use Rattle.c5_definitions.specs.Items.{Item, column_types, frame_length, name_length, types_of_bytes, after_item}
 use Rattle.c5_frames.specs.Stages.{item_of}
-use Rattle.c5_frames.specs.Progress.{tables_of, tables_after}
+use Rattle.c5_frames.specs.DecoderStates.{tables_of, tables_after}
 use Rattle.c5_frames.proofs.header.after_column_types.Goals as goal
 
-columns-taken : (missing size : ℕ) (name : List ℕ) (tables : List TableDef) (item : List ℕ) (columns : List CellType) → types_in item ≡ Ok columns
+columns-taken : (missing size : ℕ) (name : List ℕ) (tables : List TableDef) (item : List ℕ) (columns : List CellType) → types_of_bytes item ≡ Ok columns
     → tables_after (column_types missing name size) tables item ≡ Ok (tables ++ record { name = name; columns = columns } ∷ [], cond (eqb missing 1) frame_length (name_length (missing - 1)))
 unfolding after_item
 columns-taken missing size name tables item columns e = rw e refl

@@ -1,5 +1,5 @@
 use Rattle.std.proofs.Common.{◌-◌, length}
-use Rattle.c5_frames.specs.Progress.{IsReady}
+use Rattle.c5_frames.specs.DecoderStates.{IsReady}
 use Rattle.c5_frames.proofs.steps.take_items.Given as goal
 
 -- what has come whole before is taken

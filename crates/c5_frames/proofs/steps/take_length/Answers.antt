@@ -1,6 +1,6 @@
 use Rattle.std.proofs.Common.{◌≡◌, ◌∙◌, ap, sym, Ok, Err}
 use Rattle.c5_definitions.specs.Items.{frame_length, frame_payload}
-use Rattle.c5_frames.specs.Progress.{tables_of, tables_after}
+use Rattle.c5_frames.specs.DecoderStates.{tables_of, tables_after}
 use Rattle.c5_frames.proofs.Tracking.{item_at}
 use Rattle.c5_frames.proofs.ReadyPlain.{ready-length, fault-length}
 use Rattle.c5_frames.proofs.steps.take_length.Goals as goal

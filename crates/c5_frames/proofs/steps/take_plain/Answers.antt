@@ -1,6 +1,6 @@
 use Rattle.std.proofs.Common.{◌≡◌, ◌∙◌, ap, sym, Ok, Err, arith}
 use Rattle.c5_frames.specs.Stages.{item_of}
-use Rattle.c5_frames.specs.Progress.{tables_of, tables_after}
+use Rattle.c5_frames.specs.DecoderStates.{tables_of, tables_after}
 use Rattle.c5_frames.proofs.Tracking.{item_at}
 use Rattle.c5_frames.proofs.ReadyPlain.{ready-plain, fault-plain, some-bytes}
 use Rattle.c5_frames.proofs.steps.take_plain.Goals as goal

@@ -1,7 +1,7 @@
 use Rattle.std.proofs.Common.{◌∙◌, Ok, ap, sym}
 use Rattle.c5_definitions.specs.Lines.{words_of}
 use Rattle.c5_definitions.specs.Statements.{after_line}
-use Rattle.c5_script.specs.Words.{words_of as held_words}
+use Rattle.c5_script.specs.Words.{held_words}
 use Rattle.c5_script.proofs.ParseLaws.{words_fail, step_fails}
 use Rattle.c5_script.proofs.parsing.take_line.Goals as goal
 

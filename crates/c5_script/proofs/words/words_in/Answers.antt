@@ -2,7 +2,7 @@ use Rattle.std.proofs.Common.{◌≡◌, ◌∙◌, ℕ, List, [], ap, sym}
 use Rattle.std.proofs.lemmas.Bool.{eqb-true}
 use Rattle.std.proofs.lemmas.List.{nil_from_length}
 use Rattle.c5_definitions.specs.Lines.{words_at, between}
-use Rattle.c5_script.specs.Words.{words_of as held_words}
+use Rattle.c5_script.specs.Words.{held_words}
 use Rattle.c5_script.specs.Reading.{with_words}
 use Rattle.c5_script.proofs.WordLaws.{not-empty, words-blank, with_words-all, words-allowed, words-not_allowed}
 use Rattle.c5_script.proofs.words.words_in.Goals as goal

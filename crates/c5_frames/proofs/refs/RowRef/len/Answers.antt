@@ -10,7 +10,7 @@ returns-clause-some c =
     let size = row-size _ _ _ _ c.self.invariant c.types.ensures.value c.self.view_is in
     omega (arith, size, ap length c.types.ensures.value, c.types.ensures.some)
 
-pub returns-clause-at_most_eight : goal.returns-clause-at_most_eight
-returns-clause-at_most_eight c =
+pub returns-clause-few : goal.returns-clause-few
+returns-clause-few c =
     let size = row-size _ _ _ _ c.self.invariant c.types.ensures.value c.self.view_is in
-    omega (arith, size, ap length c.types.ensures.value, c.types.ensures.at_most_eight)
+    omega (arith, size, ap length c.types.ensures.value, c.types.ensures.few)
