@@ -1,5 +1,9 @@
-//! The program: standard input, standard output and the words of the command line, handed to the top call.
+//! The program: standard input, standard output and the words of the command line, given to the top
+//! call.
 #![tactic(auto)]
+
+ghost use Rattle.std.specs.Prelude.{◌≡◌};
+ghost use Rattle.c5.specs.Advice.{advice_of};
 
 use c5_driver::{Status, c5};
 use c5_io::{StdSink, StdSource};
@@ -14,17 +18,37 @@ fn words<R: Env + AllocGlobal>(rt: &R, alloc: Global) -> io::Result<Vec<String>>
     Ok(env::args(rt)?.skip(1).collect(alloc)?)
 }
 
+// What went wrong and what to do, for a run whose output doesn't say it; empty for any other.
+fn advice(status: Status) -> &'static str
+    ensures { result.now ≡ advice_of status }
+{
+    match status {
+        Status::BadWords => "c5: usage: c5 apply | primary, with input on standard input",
+        Status::ReadFault => "c5: reading standard input failed; nothing was written",
+        Status::WriteFault => "c5: writing standard output failed; what was written is not whole",
+        Status::NoMemory => "c5: out of memory; nothing was written",
+        Status::Ok | Status::BadScript | Status::BadLog | Status::TooLong | Status::Limit => "",
+    }
+}
+
 fn main(rt: HostRuntime) -> ExitCode {
     let alloc = rt.alloc();
-    let words = match words(&rt, alloc) {
-        Ok(words) => words,
-        Err(error) if error.kind() == ErrorKind::OutOfMemory => {
-            return ExitCode::from(Status::NoMemory.number());
-        }
+    let status = match words(&rt, alloc) {
+        Ok(words) => run(&rt, alloc, &words),
+        Err(error) if error.kind() == ErrorKind::OutOfMemory => Status::NoMemory,
         // Words that are no text are no command.
-        Err(_) => Vec::new(alloc),
+        Err(_) => run(&rt, alloc, &[]),
     };
+    let advice = advice(status);
+    if !advice.is_empty() {
+        // If this fails too, the exit status still says it.
+        let _ = eprintln!(rt; "{advice}");
+    }
+    ExitCode::from(status.number())
+}
+
+fn run(rt: &HostRuntime, alloc: Global, words: &[String]) -> Status {
     let mut source = StdSource::new(rt.stdin());
     let mut sink = StdSink::new(rt.stdout());
-    ExitCode::from(c5(alloc, &words, &mut source, &mut sink).number())
+    c5(alloc, words, &mut source, &mut sink)
 }

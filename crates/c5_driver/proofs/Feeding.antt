@@ -1,41 +1,54 @@
 -- What feeding a decoder from a source comes to.
-use Rattle.std.proofs.Common.{◌≡◌, ◌<◌, ◌++◌, ◌∙◌, ℕ, List, [], length, Option, Some, None, refl, sym, subst, ap, arith}
-use Rattle.std.specs.Prelude.{IfSome}
-use Rattle.std.specs.Io.KnownBytes.{Consumes}
+use Rattle.std.proofs.Common.{◌≡◌, ◌≤◌, ◌-◌, ◌++◌, ◌∙◌, ℕ, List, [], length, Option, Some, None, refl, sym, subst, arith}
+use Rattle.std.specs.Io.KnownBytes.{Consumes, Keeps}
 use Rattle.std.proofs.KnownBytes.{Consumes-trans}
 use Rattle.std.proofs.lemmas.List.{length-append}
-use Rattle.c5_io.specs.Causes.{Rose}
-use Rattle.c5_driver.specs.declared.command.Command.TheVariants.{Apply}
+use Rattle.c5_rows.specs.Counts.{Rose}
 use Rattle.c5_driver.specs.declared.refusal.Refusal.{Refusal}
 use Rattle.c5_driver.specs.declared.refusal.Refusal.TheVariants as refusals
-use Rattle.c5_driver.specs.Outcome.{Refuses}
-use Rattle.c5_driver.specs.Fed.{Fed, StopsFeeding}
+use Rattle.c5_driver.specs.Feeding.{Feeds}
+use Rattle.c5_driver.specs.Inputs.{Refuses, none_refused}
+use Rattle.c5_driver.specs.Uses.{SourceUse}
 
 -- nothing is consumed at first
 pub consumes-none : (a : Option (List ℕ)) → Consumes a a []
 consumes-none None = tt
 consumes-none (Some xs) = refl
 
+-- what is kept is not consumed
+pub keeps-consumes : (a b : Option (List ℕ)) → Keeps a b → Consumes a b []
+keeps-consumes None b kept = tt
+keeps-consumes (Some xs) None kept = absurd kept
+keeps-consumes (Some xs) (Some ys) kept = sym kept
+
+abbrev use_of : Option (List ℕ) → Option (List ℕ) → ℕ → ℕ → SourceUse
+use_of left_old left_new faults_old faults_new = record { left_old = left_old; left_new = left_new; faults_old = faults_old; faults_new = faults_new }
+
+never : (refusal : Refusal) → None ≡ Some refusal → ⊥
+never refusal e = absurd cc
+
 -- what was fed before and now
-pub fed-more : (a b c : Option (List ℕ)) (old new : List ℕ) → Consumes a b old → Fed b c old new → Consumes a c new
-fed-more a b c old new taken more = subst (Consumes a c) (sym more.fed) (Consumes-trans a b c old more.bytes taken more.taken)
+pub fed-more : (a b c : Option (List ℕ)) (f0 f1 : ℕ) (old new : List ℕ) → Consumes a b old → Feeds (use_of b c f0 f1) old new → Consumes a c new
+fed-more a b c f0 f1 old new taken more = subst (Consumes a c) (sym more.fed) (Consumes-trans a b c old more.bytes taken more.taken)
 
-longer : (a c : Option (List ℕ)) (bytes : List ℕ) (limit : ℕ) → Consumes a c bytes → limit < length bytes → IfSome a (λ left. limit < length left)
-longer None c bytes limit taken long = tt
-longer (Some xs) None bytes limit taken long = absurd taken
-longer (Some xs) (Some ys) bytes limit taken long =
-    let same = ap length taken in
-    omega (arith, same, long, length-append bytes ys)
-
--- why feeding stops is why the command refuses
-pub stops-refuses : (refusal : Refusal) (f0 f1 f2 : ℕ) (a b c : Option (List ℕ)) (fed : List ℕ) → f1 ≡ f0 → Consumes a b fed → StopsFeeding refusal f1 f2 b c fed → Refuses Apply refusal f0 f2 a c
-stops-refuses refusals.BadWords f0 f1 f2 a b c fed calm taken why = absurd why
-stops-refuses refusals.ReadFault f0 f1 f2 a b c fed calm taken why = subst (λ (n : ℕ). Rose n f2) calm why
-stops-refuses refusals.TooLong f0 f1 f2 a b c fed calm taken why =
-    let all = fed ++ why.1 in
-    let long = why.3 in
-    (why.0 ∙ calm, longer a c all 88080384 (Consumes-trans a b c fed why.1 taken why.2) (omega (arith, long, length-append fed why.1)))
-stops-refuses refusals.NoMemory f0 f1 f2 a b c fed calm taken why = why ∙ calm
-stops-refuses (refusals.BadScript fault) f0 f1 f2 a b c fed calm taken why = absurd why
-stops-refuses (refusals.BadLog fault) f0 f1 f2 a b c fed calm taken why = absurd why
-stops-refuses (refusals.Limit excess) f0 f1 f2 a b c fed calm taken why = absurd why
+-- why one more read ends the feeding is why the whole input is refused
+pub stops-refuses : (refusal : Refusal) (limit : ℕ) (a b c : Option (List ℕ)) (f0 f1 f2 : ℕ) (fed : List ℕ) → length fed ≤ limit → f1 ≡ f0 → Consumes a b fed → Refuses (limit - length fed) none_refused (use_of b c f1 f2) refusal → Refuses limit none_refused (use_of a c f0 f2) refusal
+stops-refuses refusals.BadWords limit a b c f0 f1 f2 fed within calm taken why = absurd why
+stops-refuses refusals.ReadFault limit a b c f0 f1 f2 fed within calm taken why =
+    let lost = why.1 in
+    let few = lost.1 in
+    (subst (λ (n : ℕ). Rose n f2) calm why.0, (fed ++ lost.0, omega (arith, length-append fed lost.0), Consumes-trans a b c fed lost.0 taken lost.2))
+stops-refuses refusals.TooLong limit a b c f0 f1 f2 fed within calm taken why =
+    let lost = why.0 in
+    let many = lost.1 in
+    ((fed ++ lost.0, omega (arith, length-append fed lost.0), Consumes-trans a b c fed lost.0 taken lost.2), why.1 ∙ calm)
+stops-refuses refusals.NoMemory limit a b c f0 f1 f2 fed within calm taken why =
+    let lost = why.taken in
+    let few = lost.1 in
+    record {
+      taken = (fed ++ lost.0, omega (arith, length-append fed lost.0), Consumes-trans a b c fed lost.0 taken lost.2);
+      faultless = why.faultless ∙ calm;
+    }
+stops-refuses (refusals.BadScript fault) limit a b c f0 f1 f2 fed within calm taken why = absurd (never _ why.2)
+stops-refuses (refusals.BadLog fault) limit a b c f0 f1 f2 fed within calm taken why = absurd (never _ why.2)
+stops-refuses (refusals.Limit excess) limit a b c f0 f1 f2 fed within calm taken why = absurd (never _ why.2)

@@ -12,7 +12,7 @@ use Rattle.c5_rows.specs.declared.writes.Write.{Write}
 use Rattle.c5_rows.specs.declared.writes.Txn.{Txn}
 use Rattle.c5_rows.specs.State.{State, after_change, after_writes, after_txns}
 use Rattle.c5_frames.specs.Index.{writes_of}
-use Rattle.c5_frames.specs.Refs.{row_of}
+use Rattle.c5_frames.specs.Refs.{row_of_change}
 
 -- ---- one change
 
@@ -20,11 +20,11 @@ abbrev row_or : List Cell → Option (List Cell) → List Cell
 row_or default None = default
 row_or default (Some row) = row
 
-pub changed-put : (name : RowName) (change : Change) (row : List Cell) (rows : State) → row_of change ≡ Some row → insert rows name row ≡ after_change name change rows
+pub changed-put : (name : RowName) (change : Change) (row : List Cell) (rows : State) → row_of_change change ≡ Some row → insert rows name row ≡ after_change name change rows
 changed-put name (Put cells) row rows e = ap (insert rows name) (sym (ap (row_or row) e))
 changed-put name Gone row rows e = absurd cc
 
-pub changed-gone : (name : RowName) (change : Change) (rows : State) → row_of change ≡ None → remove rows name ≡ after_change name change rows
+pub changed-gone : (name : RowName) (change : Change) (rows : State) → row_of_change change ≡ None → remove rows name ≡ after_change name change rows
 changed-gone name (Put cells) rows e = absurd cc
 changed-gone name Gone rows e = refl
 

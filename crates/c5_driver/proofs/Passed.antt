@@ -1,36 +1,29 @@
--- The first limit that a script passes, from its counts.
-use Rattle.std.proofs.Common.{◌≡◌, ◌<◌, ◌≤◌, Bool, true, false, Option, Some, None, length, refl}
+-- A script that exceeds no limit.
+use Rattle.std.proofs.Common.{◌≡◌, Bool, true, false, Option, Some, None, length, refl}
 use Rattle.std.specs.Prelude.{if◌then◌else◌}
-use Rattle.std.proofs.lemmas.Bool.{ltb-false, lt-ltb, le-ltb}
+use Rattle.std.proofs.lemmas.Bool.{ltb-false}
 use Rattle.c5_definitions.specs.ScriptParts.{ScriptParts}
-use Rattle.c5_definitions.specs.Limits.{write_statements, written_rows, AreWithinLimits}
-use Rattle.c5_driver.specs.declared.refusal.Excess.{Excess}
-use Rattle.c5_driver.specs.declared.refusal.Excess.TheVariants.{Transactions, Writes, Rows}
-use Rattle.c5_driver.specs.Excesses.{excess_of}
+use Rattle.c5_definitions.specs.Limits.{write_statements, written_rows, AreWithinLimits, excess_of}
+use Rattle.c5_definitions.specs.declared.limits.Excess.{Excess}
 
 not-first : (b : Bool) (first : Excess) (others : Option Excess) → (if b then Some first else others) ≡ None → b ≡ false
 not-first true first others e = absurd cc
 not-first false first others e = refl
 
--- a script within the limits has few bodies
-pub few-bodies : (script : ScriptParts) → excess_of script ≡ None → length script.bodies ≤ 65536
-unfolding excess_of
-few-bodies script e = ltb-false 65536 (length script.bodies) (not-first _ _ _ e)
+not-first-others : (b : Bool) (first : Excess) (others : Option Excess) → (if b then Some first else others) ≡ None → others ≡ None
+not-first-others true first others e = absurd cc
+not-first-others false first others e = e
 
-pub no-excess : (script : ScriptParts) → AreWithinLimits script.bodies → excess_of script ≡ None
+-- a script that exceeds no limit is within each
+pub within-limits : (script : ScriptParts) → excess_of script ≡ None → AreWithinLimits script.bodies
 unfolding excess_of
-no-excess script within =
-    rw (le-ltb 65536 (length script.bodies) within.transactions, le-ltb 262144 (write_statements script.bodies) within.writes, le-ltb 65536 (written_rows script.bodies) within.rows) refl
-
-pub too-many-transactions : (script : ScriptParts) → 65536 < length script.bodies → excess_of script ≡ Some Transactions
-unfolding excess_of
-too-many-transactions script more = rw (lt-ltb 65536 (length script.bodies) more) refl
-
-pub too-many-writes : (script : ScriptParts) → length script.bodies ≤ 65536 → 262144 < write_statements script.bodies → excess_of script ≡ Some Writes
-unfolding excess_of
-too-many-writes script few more = rw (le-ltb 65536 (length script.bodies) few, lt-ltb 262144 (write_statements script.bodies) more) refl
-
-pub too-many-rows : (script : ScriptParts) → length script.bodies ≤ 65536 → write_statements script.bodies ≤ 262144 → 65536 < written_rows script.bodies → excess_of script ≡ Some Rows
-unfolding excess_of
-too-many-rows script few writes more =
-    rw (le-ltb 65536 (length script.bodies) few, le-ltb 262144 (write_statements script.bodies) writes, lt-ltb 65536 (written_rows script.bodies) more) refl
+within-limits script e =
+    let first = not-first _ _ _ e in
+    let others = not-first-others _ _ _ e in
+    let second = not-first _ _ _ others in
+    let third = not-first _ _ _ (not-first-others _ _ _ others) in
+    record {
+      transactions = ltb-false 65536 (length script.bodies) first;
+      writes = ltb-false 262144 (write_statements script.bodies) second;
+      rows = ltb-false 65536 (written_rows script.bodies) third;
+    }

@@ -1,10 +1,13 @@
-pub use Rattle.c5_io.specs.Causes
+pub use Rattle.c5_rows.specs.Counts
+pub use Rattle.c5_io.specs.Whole
 pub use Rattle.c5_definitions.specs.Lawful
 pub use Rattle.c5_definitions.specs.Texts
 pub mod Numbers
 pub mod Commands
 pub mod Refusals
+pub mod Uses
+pub mod Inputs
+pub mod Feeding
+pub mod Meanings
 pub mod Printed
-pub mod Excesses
-pub mod Outcome
-pub mod Fed
+pub mod Runs

@@ -4,13 +4,13 @@ use Rattle.c5_driver.specs.declared.status.Status.{Status}
 use Rattle.c5_driver.specs.declared.status.Status.TheVariants as statuses
 
 -- the number of a status
-abbrev pub number_of : Status → ℕ
-number_of statuses.Ok = 0
-number_of statuses.BadWords = 2
-number_of statuses.BadScript = 3
-number_of statuses.BadLog = 4
-number_of statuses.ReadFault = 5
-number_of statuses.WriteFault = 6
-number_of statuses.NoMemory = 7
-number_of statuses.TooLong = 8
-number_of statuses.Limit = 9
+abbrev pub status_number : Status → ℕ
+status_number statuses.Ok = 0
+status_number statuses.BadWords = 2
+status_number statuses.BadScript = 3
+status_number statuses.BadLog = 4
+status_number statuses.ReadFault = 5
+status_number statuses.WriteFault = 6
+status_number statuses.NoMemory = 7
+status_number statuses.TooLong = 8
+status_number statuses.Limit = 9

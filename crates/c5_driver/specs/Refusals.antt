@@ -1,11 +1,11 @@
--- Why a run ends without its text: its status and the line that tells it.
+-- Why a run ends without its text: the status, and the line that says why.
 use Rattle.std.specs.Prelude.{ℕ, List, [], ◌++◌, codes, decimal}
 use Rattle.c5_definitions.specs.declared.fault.LogKind.{LogKind}
 use Rattle.c5_definitions.specs.declared.fault.LogKind.TheVariants as log_kinds
 use Rattle.c5_definitions.specs.declared.script.ScriptKind.{ScriptKind}
 use Rattle.c5_definitions.specs.declared.script.ScriptKind.TheVariants as script_kinds
-use Rattle.c5_driver.specs.declared.refusal.Excess.{Excess}
-use Rattle.c5_driver.specs.declared.refusal.Excess.TheVariants as excesses
+use Rattle.c5_definitions.specs.declared.limits.Excess.{Excess}
+use Rattle.c5_definitions.specs.declared.limits.Excess.TheVariants as excesses
 use Rattle.c5_driver.specs.declared.status.Status.{Status}
 use Rattle.c5_driver.specs.declared.status.Status.TheVariants as statuses
 use Rattle.c5_driver.specs.declared.refusal.Refusal.{Refusal}
@@ -21,7 +21,7 @@ status_of (refusals.BadScript fault) = statuses.BadScript
 status_of (refusals.BadLog fault) = statuses.BadLog
 status_of (refusals.Limit excess) = statuses.Limit
 
--- the end of a line that tells a fault: a blank, the kind, the line's end
+-- the end of a line that reports a fault: a blank, the kind, the line's end
 abbrev pub log_ending : LogKind → List ℕ
 log_ending log_kinds.Magic = codes " magic\n"
 log_ending log_kinds.Header = codes " header\n"
@@ -61,12 +61,14 @@ limit_line excesses.Rows = codes "limit rows\n"
 abbrev pub place_line : List ℕ → ℕ → List ℕ → List ℕ
 place_line front place ending = front ++ decimal place ++ ending
 
--- the line that tells a refusal; none of a failed read and of want of memory
+-- the line that reports a refusal; a failed read and running out of memory have none
 abbrev pub line_of : Refusal → List ℕ
 line_of refusals.BadWords = codes "bad words\n"
 line_of refusals.ReadFault = []
 line_of refusals.TooLong = codes "too long\n"
 line_of refusals.NoMemory = []
-line_of (refusals.BadScript fault) = place_line (codes "bad script line ") fault.line (script_ending fault.kind)
-line_of (refusals.BadLog fault) = place_line (codes "bad log at ") fault.offset (log_ending fault.kind)
+line_of (refusals.BadScript fault) =
+    place_line (codes "bad script line ") fault.line (script_ending fault.kind)
+line_of (refusals.BadLog fault) =
+    place_line (codes "bad log at ") fault.offset (log_ending fault.kind)
 line_of (refusals.Limit excess) = limit_line excess

@@ -3,8 +3,10 @@
 ghost use Rattle.std.specs.Prelude.{◌≡◌};
 ghost use Rattle.c5_driver.specs.Commands.{command_named, command_of, input_limit};
 
+use c5_rows::{MAX_LOG_BYTES, MAX_SCRIPT_BYTES};
+
 /// What the program is asked to do.
-#[derive(Clone, Copy, Debug, PartialEq, Eq)]
+#[derive(Clone, Copy)]
 pub enum Command {
     /// Prints the rows after a whole log.
     Apply,
@@ -13,17 +15,18 @@ pub enum Command {
 }
 
 impl Command {
-    /// The most bytes that the command's input has.
+    /// The most bytes that the command reads.
     pub fn input_limit(self) -> usize
         ensures { result ≡ input_limit self }
     {
         match self {
-            Command::Apply => 88_080_384,
-            Command::Primary => 4_194_304,
+            Command::Apply => MAX_LOG_BYTES,
+            Command::Primary => MAX_SCRIPT_BYTES,
         }
     }
 }
 
+// The command of this name.
 fn named(word: &str) -> Option<Command>
     ensures { result ≡ command_named word.now }
 {
@@ -36,7 +39,7 @@ fn named(word: &str) -> Option<Command>
     None
 }
 
-/// The command of these words, which is named by one word alone.
+/// The command that these words name: one word, which is its name. `None` for any others.
 pub fn command_of(words: &[String]) -> Option<Command>
     ensures { result ≡ command_of words.now }
 {

@@ -1,13 +1,15 @@
 //! A log that is read from a source.
 
-ghost use Rattle.std.specs.Prelude.{◌≡◌, ◌≤◌, ◌<◌, ◌+◌, ◌++◌, [], length, take, true, false, IfOk, IfErr, OnOk, OnErr};
+ghost use Rattle.std.specs.Prelude.{◌≡◌, ◌≤◌, ◌<◌, ◌+◌, ◌-◌, ◌++◌, [], length, take, true, false, IfOk, IfErr, OnOk, OnErr};
 ghost use Rattle.std.specs.Io.KnownBytes.{Consumes, IsAtEnd, Keeps};
-ghost use Rattle.c5_io.specs.Causes.{HasCause};
+ghost use Rattle.c5_rows.specs.Sizes.{max_log_bytes};
+ghost use Rattle.c5_rows.specs.Counts.{HasCause};
 ghost use Rattle.c5_definitions.specs.Lawful.{Spells};
-ghost use Rattle.c5_driver.specs.Outcome.{ReadsWhole, Refuses};
-ghost use Rattle.c5_driver.specs.Fed.{Fed, StopsFeeding};
+ghost use Rattle.c5_driver.specs.Feeding.{Feeds};
+ghost use Rattle.c5_driver.specs.Inputs.{Reads, Refuses, none_refused};
+ghost use Rattle.c5_driver.specs.Meanings.{log_refusal};
+ghost use Rattle.c5_driver.specs.Uses.{source_use};
 
-use crate::command::Command;
 use crate::refusal::Refusal;
 use c5_frames::{Decoder, FeedFault, LogBuffer};
 use c5_io::{Failed, Source};
@@ -15,9 +17,6 @@ use std::alloc::Global;
 
 // How many bytes a read asks for: they stay in a processor's cache until they are decoded.
 const PIECE: usize = 128 * 1024;
-
-// The most bytes that a log has that is read.
-const LIMIT: u32 = 88_080_384;
 
 // One read of at most `room` bytes.
 fn read_piece<S: Source>(source: &mut S, piece: &mut [u8], room: usize) -> Result<usize, Failed>
@@ -34,9 +33,9 @@ fn read_piece<S: Source>(source: &mut S, piece: &mut [u8], room: usize) -> Resul
     source.read(&mut piece[..size])
 }
 
-// Takes the bytes. A fault of the log is told when all of it has come.
+// Feeds the bytes. A fault of the log is reported after the whole input has been read.
 fn feed(decoder: &mut Decoder, piece: &[u8]) -> Result<(), Refusal>
-    requires { length decoder.old + length piece.now ≤ 88080384 }
+    requires { length decoder.old + length piece.now ≤ max_log_bytes }
     ensures ok { OnOk result (decoder.new ≡ decoder.old ++ piece.now) }
     ensures err { IfErr result (λ refusal. refusal ≡ Refusal.NoMemory) }
     ensures kept { OnErr result (decoder.new ≡ decoder.old) }
@@ -47,22 +46,24 @@ fn feed(decoder: &mut Decoder, piece: &[u8]) -> Result<(), Refusal>
     }
 }
 
-// Feeds what one read gives, and tells whether the source has ended.
+// Feeds what one read gives, and returns whether the source has ended.
 fn feed_next<S: Source>(
     source: &mut S,
     decoder: &mut Decoder,
     piece: &mut [u8],
+    limit: usize,
 ) -> Result<bool, Refusal>
-    requires within { length decoder.old ≤ 88080384 }
+    requires most { limit ≤ max_log_bytes }
+    requires within { length decoder.old ≤ limit }
     requires piece { 1 ≤ length piece.old }
-    ensures within { length decoder.new ≤ 88080384 }
-    ensures fed { OnOk result (Fed (S.left source.old) (S.left source.new) decoder.old decoder.new) }
+    ensures within { length decoder.new ≤ limit }
+    ensures fed { OnOk result (Feeds (source_use S.left S.faults source.old source.new) decoder.old decoder.new) }
     ensures end { IfOk result (λ ended. ended ≡ true → IsAtEnd (S.left source.new)) }
     ensures more { IfOk result (λ ended. ended ≡ false → length decoder.old < length decoder.new) }
-    ensures faults { OnOk result (S.faults source.new ≡ S.faults source.old) }
-    ensures refused { IfErr result (λ refusal. StopsFeeding refusal (S.faults source.old) (S.faults source.new) (S.left source.old) (S.left source.new) decoder.old) }
+    ensures refused { IfErr result (λ refusal. Refuses (limit - length decoder.old) none_refused
+        (source_use S.left S.faults source.old source.new) refusal) }
 {
-    let room = (LIMIT - decoder.fed()) as usize;
+    let room = limit - decoder.fed() as usize;
     let count = match read_piece(source, piece, room + 1) {
         Ok(count) => count,
         Err(Failed) => return Err(Refusal::ReadFault),
@@ -74,47 +75,54 @@ fn feed_next<S: Source>(
     Ok(count == 0)
 }
 
+// Feeds all that the source has left.
 fn feed_all<S: Source>(
     source: &mut S,
     decoder: &mut Decoder,
     piece: &mut [u8],
+    limit: usize,
 ) -> Result<(), Refusal>
+    requires most { limit ≤ max_log_bytes }
     requires empty { decoder.old ≡ [] }
     requires piece { 1 ≤ length piece.old }
-    ensures ok { OnOk result (ReadsWhole Command.Apply (S.left source.old) (S.left source.new) decoder.new) }
-    ensures faults { OnOk result (S.faults source.new ≡ S.faults source.old) }
-    ensures refused { IfErr result (λ refusal. Refuses Command.Apply refusal (S.faults source.old) (S.faults source.new) (S.left source.old) (S.left source.new)) }
+    ensures { Reads limit none_refused (λ input _. decoder.new ≡ input)
+        (source_use S.left S.faults source.old source.new) result }
 {
-    loop {
-        if feed_next(source, decoder, piece)? {
-            return Ok(());
+    'pieces: loop {
+        match feed_next(source, decoder, piece, limit) {
+            Ok(true) => return Ok(()),
+            Ok(false) => {}
+            Err(refusal) => return Err(refusal),
         }
     }
 }
 
 // A decoder that was fed all that the source had left.
-fn fed_whole<S: Source>(alloc: Global, source: &mut S) -> Result<Decoder, Refusal>
-    ensures ok { IfOk result (λ decoder. ReadsWhole Command.Apply (S.left source.old) (S.left source.new) decoder) }
-    ensures faults { OnOk result (S.faults source.new ≡ S.faults source.old) }
-    ensures refused { IfErr result (λ refusal. Refuses Command.Apply refusal (S.faults source.old) (S.faults source.new) (S.left source.old) (S.left source.new)) }
+fn fed_whole<S: Source>(alloc: Global, source: &mut S, limit: usize) -> Result<Decoder, Refusal>
+    requires { limit ≤ max_log_bytes }
+    ensures { Reads limit none_refused (λ input decoder. decoder ≡ input)
+        (source_use S.left S.faults source.old source.new) result }
 {
     let mut piece = match vec![in alloc; 0; PIECE] {
         Ok(piece) => piece,
         Err(_) => return Err(Refusal::NoMemory),
     };
     let mut decoder = Decoder::new(alloc);
-    feed_all(source, &mut decoder, piece.as_mut_slice())?;
+    feed_all(source, &mut decoder, piece.as_mut_slice(), limit)?;
     Ok(decoder)
 }
 
-/// The log that the source gives, read to its end, or why there is none.
-pub fn read_log<S: Source>(alloc: Global, source: &mut S) -> Result<LogBuffer, Refusal>
-    ensures ok { IfOk result (λ log. ReadsWhole Command.Apply (S.left source.old) (S.left source.new) log.bytes) }
-    ensures log { IfOk result (λ log. Spells log.bytes log.tables log.txns) }
-    ensures faults { OnOk result (S.faults source.new ≡ S.faults source.old) }
-    ensures refused { IfErr result (λ refusal. Refuses Command.Apply refusal (S.faults source.old) (S.faults source.new) (S.left source.old) (S.left source.new)) }
+/// The log that the source gives, read to its end, up to `limit` bytes; or its first fault.
+pub fn read_log<S: Source>(
+    alloc: Global,
+    source: &mut S,
+    limit: usize,
+) -> Result<LogBuffer, Refusal>
+    requires { limit ≤ max_log_bytes }
+    ensures { Reads limit log_refusal (λ input log. Spells input log.tables log.txns)
+        (source_use S.left S.faults source.old source.new) result }
 {
-    let decoder = fed_whole(alloc, source)?;
+    let decoder = fed_whole(alloc, source, limit)?;
     match decoder.finish() {
         Ok(log) => Ok(log),
         Err(fault) => Err(Refusal::BadLog(fault)),

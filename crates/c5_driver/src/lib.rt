@@ -1,18 +1,18 @@
-//! The top call of the program.
+//! The commands of the program, and its top call.
 #![tactic(auto)]
 
 mod apply;
 mod command;
 mod decoding;
-mod log_rows;
 mod primary;
 mod printing;
+mod reading;
 mod refusal;
 mod run;
 mod status;
 
 pub use command::Command;
-pub use refusal::{Excess, Refusal};
+pub use refusal::Refusal;
 pub use run::c5;
 pub use status::Status;
 

@@ -1,18 +1,19 @@
 //! What is written to the sink.
 
-ghost use Rattle.std.specs.Prelude.{◌≡◌, ◌⊎◌, ◌≤◌, ◌++◌, [], true, is_ok, OnOk};
+ghost use Rattle.std.specs.Prelude.{◌≡◌, ◌++◌, [], is_ok, OnOk};
 ghost use Rattle.std.specs.Io.KnownBytes.{Appends, Keeps};
-ghost use Rattle.c5_io.specs.Causes.{Rose, HasCause};
-ghost use Rattle.c5_driver.specs.Printed.{PrintsFront, PrintsLine};
+ghost use Rattle.c5_rows.specs.Counts.{HasCause};
+ghost use Rattle.c5_driver.specs.Printed.{AppendsPrefix, PrintsText, PrintsLine};
 ghost use Rattle.c5_driver.specs.Refusals.{line_of, limit_line, log_ending, place_line, script_ending};
+ghost use Rattle.c5_driver.specs.Uses.{sink_use};
 
-use crate::refusal::{Excess, Refusal};
+use crate::refusal::Refusal;
 use crate::status::Status;
-use c5_definitions::{LogKind, ScriptKind};
+use c5_definitions::{Excess, LogKind, ScriptKind};
 use c5_io::{Failed, Sink, write_all};
 use itoa::Buffer;
 
-// Passes on what was written.
+// Flushes.
 fn finish<K: Sink>(sink: &mut K) -> Result<(), Failed>
     ensures kept { Keeps (K.held sink.old) (K.held sink.new) }
     ensures flushed { K.flushed sink.new ≡ is_ok result }
@@ -21,14 +22,9 @@ fn finish<K: Sink>(sink: &mut K) -> Result<(), Failed>
     sink.flush()
 }
 
-/// Writes the whole text and flushes.
+/// Writes the whole text and flushes. Returns `Ok`, or `WriteFault` if a call failed.
 pub fn print<K: Sink>(sink: &mut K, text: &[u8]) -> Status
-    ensures ends { (result ≡ Status.Ok) ⊎ (result ≡ Status.WriteFault) }
-    ensures whole { result ≡ Status.Ok → Appends (K.held sink.old) (K.held sink.new) text.now }
-    ensures flushed { result ≡ Status.Ok → K.flushed sink.new ≡ true }
-    ensures clean { result ≡ Status.Ok → K.faults sink.new ≡ K.faults sink.old }
-    ensures front { PrintsFront (K.held sink.old) (K.held sink.new) text.now }
-    ensures cause { result ≡ Status.WriteFault → Rose (K.faults sink.old) (K.faults sink.new) }
+    ensures { PrintsText result (sink_use K.held K.faults K.flushed sink.old sink.new) text.now }
 {
     match write_all(sink, text) {
         Ok(()) => {}
@@ -40,10 +36,9 @@ pub fn print<K: Sink>(sink: &mut K, text: &[u8]) -> Status
     }
 }
 
-// Writes a line and flushes. What fails is passed over.
+// Writes a line and flushes. A failed call is ignored.
 fn tell<K: Sink>(sink: &mut K, line: &[u8])
-    ensures line { PrintsLine (K.faults sink.old) (K.faults sink.new) (K.held sink.old) (K.held sink.new) line.now }
-    ensures later { K.faults sink.old ≤ K.faults sink.new }
+    ensures { PrintsLine (sink_use K.held K.faults K.flushed sink.old sink.new) line.now }
 {
     match write_all(sink, line) {
         Ok(()) => {
@@ -53,15 +48,16 @@ fn tell<K: Sink>(sink: &mut K, line: &[u8])
     }
 }
 
-// Writes three parts of a line, one after the other, up to the first that fails.
+// Writes three parts of a line, one after the other, up to the first failure.
 fn write_parts<K: Sink>(
     sink: &mut K,
     front: &[u8],
     middle: &[u8],
     ending: &[u8],
 ) -> Result<(), Failed>
-    ensures front { PrintsFront (K.held sink.old) (K.held sink.new) (front.now ++ middle.now ++ ending.now) }
-    ensures whole { OnOk result (Appends (K.held sink.old) (K.held sink.new) (front.now ++ middle.now ++ ending.now)) }
+    ensures written { AppendsPrefix (K.held sink.old) (K.held sink.new) (front.now ++ middle.now ++ ending.now) }
+    ensures whole { OnOk result (Appends (K.held sink.old) (K.held sink.new)
+        (front.now ++ middle.now ++ ending.now)) }
     ensures cause { HasCause (K.faults sink.old) (K.faults sink.new) result }
 {
     write_all(sink, front)?;
@@ -70,10 +66,10 @@ fn write_parts<K: Sink>(
     Ok(())
 }
 
-// Writes a line with a number in its middle and flushes. What fails is passed over.
+// Writes a line with a number in its middle and flushes. A failed call is ignored.
 fn tell_place<K: Sink>(sink: &mut K, front: &[u8], place: u32, ending: &[u8])
-    ensures line { PrintsLine (K.faults sink.old) (K.faults sink.new) (K.held sink.old) (K.held sink.new) (place_line front.now place ending.now) }
-    ensures later { K.faults sink.old ≤ K.faults sink.new }
+    ensures { PrintsLine (sink_use K.held K.faults K.flushed sink.old sink.new)
+        (place_line front.now place ending.now) }
 {
     let mut digits = Buffer::new();
     match write_parts(sink, front, digits.format(place).as_bytes(), ending) {
@@ -84,6 +80,7 @@ fn tell_place<K: Sink>(sink: &mut K, front: &[u8], place: u32, ending: &[u8])
     }
 }
 
+// The end of the line that reports a fault of a log.
 fn ending_of_log(kind: LogKind) -> &'static [u8]
     ensures { result.now ≡ log_ending kind }
 {
@@ -104,6 +101,7 @@ fn ending_of_log(kind: LogKind) -> &'static [u8]
     }
 }
 
+// The end of the line that reports a fault of a script.
 fn ending_of_script(kind: ScriptKind) -> &'static [u8]
     ensures { result.now ≡ script_ending kind }
 {
@@ -123,6 +121,7 @@ fn ending_of_script(kind: ScriptKind) -> &'static [u8]
     }
 }
 
+// The line of a limit.
 fn line_of_limit(excess: Excess) -> &'static [u8]
     ensures { result.now ≡ limit_line excess }
 {
@@ -133,10 +132,9 @@ fn line_of_limit(excess: Excess) -> &'static [u8]
     }
 }
 
-/// Writes the line of a refusal, if it has one, and flushes. Where that fails, the refusal stands.
+/// Writes the line of a refusal, if it has one, and flushes. A failed call is ignored.
 pub fn refuse<K: Sink>(sink: &mut K, refusal: Refusal)
-    ensures line { PrintsLine (K.faults sink.old) (K.faults sink.new) (K.held sink.old) (K.held sink.new) (line_of refusal) }
-    ensures later { K.faults sink.old ≤ K.faults sink.new }
+    ensures line { PrintsLine (sink_use K.held K.faults K.flushed sink.old sink.new) (line_of refusal) }
     ensures untouched { line_of refusal ≡ [] → sink.new ≡ sink.old }
 {
     match refusal {

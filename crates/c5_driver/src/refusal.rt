@@ -4,35 +4,24 @@ ghost use Rattle.std.specs.Prelude.{◌≡◌};
 ghost use Rattle.c5_driver.specs.Refusals.{status_of};
 
 use crate::status::Status;
-use c5_definitions::{LogFault, ScriptFault};
-
-/// What there are too many of.
-#[derive(Clone, Copy, Debug, PartialEq, Eq)]
-pub enum Excess {
-    /// More than 65,536 transactions.
-    Transactions,
-    /// More than 262,144 writes.
-    Writes,
-    /// More than 65,536 rows.
-    Rows,
-}
+use c5_definitions::{Excess, LogFault, ScriptFault};
 
 /// Why a run ends without its text.
-#[derive(Clone, Copy, Debug, PartialEq, Eq)]
+#[derive(Clone, Copy)]
 pub enum Refusal {
-    /// The words of the command line are no command.
+    /// The words of the command line aren't a command.
     BadWords,
     /// A read failed.
     ReadFault,
     /// The input is longer than the command's limit.
     TooLong,
-    /// Memory was refused.
+    /// Out of memory.
     NoMemory,
     /// The first fault of the script.
     BadScript(ScriptFault),
     /// The first fault of the log.
     BadLog(LogFault),
-    /// What the script has too many of.
+    /// The first limit that the script exceeds.
     Limit(Excess),
 }
 

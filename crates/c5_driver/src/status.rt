@@ -3,11 +3,11 @@
 ghost use Rattle.std.specs.Prelude.{◌≡◌};
 
 /// How a run ends.
-#[derive(Clone, Copy, Debug, PartialEq, Eq)]
+#[derive(Clone, Copy, PartialEq, Eq)]
 pub enum Status {
     /// The input was read to its end and the whole text was written.
     Ok,
-    /// The words of the command line are no command.
+    /// The words of the command line aren't a command.
     BadWords,
     /// The script has a fault.
     BadScript,
@@ -17,20 +17,20 @@ pub enum Status {
     ReadFault,
     /// A write or the flush failed.
     WriteFault,
-    /// Memory was refused.
+    /// Out of memory.
     NoMemory,
-    /// There are more bytes than the command reads.
+    /// The input is longer than the command's limit.
     TooLong,
-    /// There are more transactions, writes or rows than a log may have.
+    /// The script has more transactions, writes or rows than a log may have.
     Limit,
 }
 
 impl Status {
-    ghost use Rattle.c5_driver.specs.Numbers.{number_of};
+    ghost use Rattle.c5_driver.specs.Numbers.{status_number};
 
-    /// The exit status of the program.
+    /// The exit status of the program, 0 to 9.
     pub fn number(self) -> u8
-        ensures { result ≡ number_of self }
+        ensures { result ≡ status_number self }
     {
         match self {
             Status::Ok => 0,

@@ -9,9 +9,9 @@ use Rattle.c5_rows.specs.declared.answer.AnswerLine.{AnswerLine}
 use Rattle.c5_definitions.specs.declared.script.ReadLine.{ReadLine}
 use Rattle.c5_definitions.specs.Follows.{Read}
 use Rattle.c5_definitions.specs.Answers.{names_in, table_names, line_answer, lines_over, sum_in, or_zero, IsAnswered}
-use Rattle.c5_definitions.specs.Effects.{number_in}
+use Rattle.c5_definitions.specs.Effects.{int_in_column}
 
--- whatever answers the lines from this place on makes, behind this, the answer to all
+-- an answer to the lines from this place on, after this one, is the answer to all
 abbrev pub Rounds : List ReadLine → List ReadLine → List Read → List AnswerLine → Type 0
 Rounds all rest reads answer = (more : List Read) (later : List AnswerLine) → IsAnswered rest more later → IsAnswered all (reads ++ more) (answer ++ later)
 
@@ -51,11 +51,11 @@ names_on table keys i key reads row lt is names =
     map-append (λ (read : Read). read.0) reads ((name, row) ∷ []) ∙ ap (λ ns. ns ++ name ∷ []) names
     ∙ sym (ap (table_names table) (take_more keys i key lt ∙ ap (λ k. take i keys ++ k ∷ []) (sym is)) ∙ map-append (λ (k : List ℕ). record { table = table; key = k }) (take i keys) (key ∷ []))
 
-sum_in-push : (col : ℕ) (rows : List (Option (List Cell))) (row : Option (List Cell)) → sum_in col (rows ++ row ∷ []) ≡ sum_in col rows +ℤ or_zero (number_in col row)
+sum_in-push : (col : ℕ) (rows : List (Option (List Cell))) (row : Option (List Cell)) → sum_in col (rows ++ row ∷ []) ≡ sum_in col rows +ℤ or_zero (int_in_column col row)
 sum_in-push col [] row = omega (arith, ints)
 sum_in-push col (first ∷ rows) row = let rest = sum_in-push col rows row in omega (arith, ints, rest)
 
-pub sum_on : (col : ℕ) (sum number : ℤ) (reads : List Read) (name : RowName) (row : Option (List Cell)) → sum ≡ sum_in col (map (λ read. read.1) reads) → number ≡ or_zero (number_in col row) →
+pub sum_on : (col : ℕ) (sum number : ℤ) (reads : List Read) (name : RowName) (row : Option (List Cell)) → sum ≡ sum_in col (map (λ read. read.1) reads) → number ≡ or_zero (int_in_column col row) →
     sum +ℤ number ≡ sum_in col (map (λ read. read.1) (reads ++ (name, row) ∷ []))
 sum_on col sum number reads name row is here =
     (λ i. is i +ℤ here i) ∙ sym (sum_in-push col (map (λ (read : Read). read.1) reads) row) ∙ ap (sum_in col) (sym (map-append (λ (read : Read). read.1) reads ((name, row) ∷ [])))

@@ -13,9 +13,9 @@ use Rattle.c5_rows.specs.Order.{row_name_cmp, row_name_cmp_total}
 use Rattle.c5_rows.specs.State.{State, after_change}
 use Rattle.c5_definitions.specs.declared.script.Statement.{Statement}
 use Rattle.c5_definitions.specs.Effects.{declines, keeps, sets, needed, effect_of}
-use Rattle.c5_definitions.specs.Eval.{Progress, change_to, write_of, row_in, set_row, run, ending_of, eval}
-use Rattle.c5_definitions.specs.Follows.{Read, Own, AnsweredBy, Finds, FollowsFrom, Follows, own_writes}
-use Rattle.c5_eval.specs.Reader.{ReaderState, answers_to}
+use Rattle.c5_definitions.specs.Eval.{BodySoFar, change_to, write_of, row_needed, set_row, after_statements, ending_of, eval}
+use Rattle.c5_definitions.specs.Follows.{Read, Own, AnsweredBy, FindsRow, FollowsFrom, Follows, own_writes}
+use Rattle.c5_eval.specs.Reader.{answers_to}
 
 -- the row that was set, or else the other one
 abbrev set_or : Option (Option (List Cell)) → Option (List Cell) → Option (List Cell)
@@ -23,7 +23,7 @@ set_or None other = other
 set_or (Some row) other = row
 
 -- the progress is that of a body which has set these rows, from a state
-record Matches (start : State) (own : Own) (p : Progress) : Type 0 where
+record Matches (start : State) (own : Own) (p : BodySoFar) : Type 0 where
   rows : (q : RowName) → get p.state q ≡ set_or (get own q) (get start q)
   names : keys p.noted ≡ keys own
 
@@ -50,7 +50,7 @@ entries-empty {X} = nil_from_length (entries (empty {X = X} {R = row_name_cmp}))
 
 -- ---- a row is set
 
-set_matches : (name : RowName) (row : Option (List Cell)) (start : State) (own : Own) (p : Progress) → Matches start own p → Matches start (insert own name row) (set_row name row p)
+set_matches : (name : RowName) (row : Option (List Cell)) (start : State) (own : Own) (p : BodySoFar) → Matches start own p → Matches start (insert own name row) (set_row name row p)
 set_matches name row start own p m = record {
   rows = λ q. state_set row q ∙ chosen (eq_by_cmp row_name_cmp q name) (get own q) (get start q) (get p.state q) row (m.rows q) ∙ ap (λ o. set_or o (get start q)) (sym (get-insert row_name_cmp_total own name row q));
   names = keys-insert p.noted name tt ∙ ap (put_key name) m.names ∙ sym (keys-insert own name row);
@@ -98,21 +98,21 @@ each_found (e ∷ es) up = (
   found_behind e es es (first_part (below_all row_name_cmp e.0 es) (is_sorted row_name_cmp es) up) (each_found es (second_part (below_all row_name_cmp e.0 es) (is_sorted row_name_cmp es) up)),
 )
 
-same_writes : (start : State) (own : Own) (p : Progress) → Matches start own p → (es : List (RowName × Option (List Cell))) → AllByRecursion (λ e. find row_name_cmp e.0 (entries own) ≡ Some e.1) es →
+same_writes : (start : State) (own : Own) (p : BodySoFar) → Matches start own p → (es : List (RowName × Option (List Cell))) → AllByRecursion (λ e. find row_name_cmp e.0 (entries own) ≡ Some e.1) es →
     map (λ name. write_of name (get p.state name)) (map (λ e. e.0) es) ≡ map (λ (name, row). write_of name row) es
 same_writes start own p m [] all = refl
 same_writes start own p m (e ∷ es) all =
     let row : get p.state e.0 ≡ e.1 = m.rows e.0 ∙ ap (λ o. set_or o (get start e.0)) (get-entries own e.0 ∙ all.0) in
     λ i. write_of e.0 (row i) ∷ same_writes start own p m es all.1 i
 
-ended : (start : State) (own : Own) (p : Progress) → Matches start own p → ending_of (Some p) ≡ record { declined = false; writes = own_writes own }
+ended : (start : State) (own : Own) (p : BodySoFar) → Matches start own p → ending_of (Some p) ≡ record { declined = false; writes = own_writes own }
 ended start own p m =
     ap (λ ws. record { declined = false; writes = ws })
     (ap (map (λ name. write_of name (get p.state name))) m.names ∙ same_writes start own p m (entries own) (each_found (entries own) (entries_sorted own)))
 
 -- ---- statement after statement
 
-needed_row : (name : Option RowName) (start : State) (own : Own) (p : Progress) (reads rest : List Read) (found : Option (List Cell)) → Matches start own p → AnsweredBy start reads → Finds name own reads found rest → (row_in name p.state ≡ found) × AnsweredBy start rest
+needed_row : (name : Option RowName) (start : State) (own : Own) (p : BodySoFar) (reads rest : List Read) (found : Option (List Cell)) → Matches start own p → AnsweredBy start reads → FindsRow name own reads found rest → (row_needed name p.state ≡ found) × AnsweredBy start rest
 needed_row None start own p reads rest found m answered finds = (sym finds.0, subst (AnsweredBy start) (sym finds.1) answered)
 needed_row (Some name) start own p reads rest found m answered finds =
     elim (get own name) as (λ o. get p.state name ≡ set_or o (get start name) → MatchOption o (reads ≡ (name, found) ∷ rest) (λ set. (found ≡ set) × (rest ≡ reads)) → (get p.state name ≡ found) × AnsweredBy start rest) [
@@ -120,15 +120,15 @@ needed_row (Some name) start own p reads rest found m answered finds =
       | Some set ↦ λ row is. (row ∙ sym is.0, subst (AnsweredBy start) (sym is.1) answered)
     ] (m.rows name) finds
 
-follows_on : (statements : List Statement) (start : State) (own : Own) (p : Progress) (reads : List Read) (declined : Bool) (writes : List Write) →
-    Matches start own p → AnsweredBy start reads → FollowsFrom statements own reads declined writes → ending_of (run statements p) ≡ record { declined = declined; writes = writes }
+follows_on : (statements : List Statement) (start : State) (own : Own) (p : BodySoFar) (reads : List Read) (declined : Bool) (writes : List Write) →
+    Matches start own p → AnsweredBy start reads → FollowsFrom statements own reads declined writes → ending_of (after_statements statements p) ≡ record { declined = declined; writes = writes }
 follows_on [] start own p reads declined writes m answered h = ended start own p m ∙ (λ i. record { declined = sym h.1 i; writes = sym h.2 i })
 follows_on (statement ∷ statements) start own p reads declined writes m answered (found, rest, finds, acts) =
     let row = needed_row (needed statement) start own p reads rest found m answered finds in
-    subst (λ (r : Option (List Cell)). ending_of (elim (effect_of statement r) [ declines ↦ None | keeps ↦ run statements p | sets name set ↦ run statements (set_row name set p) ]) ≡ record { declined = declined; writes = writes }) (sym row.0)
+    subst (λ (r : Option (List Cell)). ending_of (elim (effect_of statement r) [ declines ↦ None | keeps ↦ after_statements statements p | sets name set ↦ after_statements statements (set_row name set p) ]) ≡ record { declined = declined; writes = writes }) (sym row.0)
     (elim (effect_of statement found) as (λ e.
     elim e as (λ _. Type 0) [ declines ↦ (rest ≡ []) × (declined ≡ true) × (writes ≡ []) | keeps ↦ FollowsFrom statements own rest declined writes | sets name set ↦ FollowsFrom statements (insert own name set) rest declined writes ]
-    → ending_of (elim e [ declines ↦ None | keeps ↦ run statements p | sets name set ↦ run statements (set_row name set p) ]) ≡ record { declined = declined; writes = writes }) [
+    → ending_of (elim e [ declines ↦ None | keeps ↦ after_statements statements p | sets name set ↦ after_statements statements (set_row name set p) ]) ≡ record { declined = declined; writes = writes }) [
       | declines ↦ λ h. λ i. record { declined = sym h.1 i; writes = sym h.2 i }
       | keeps ↦ λ h. follows_on statements start own p rest declined writes m row.1 h
       | sets name set ↦ λ h. follows_on statements start (insert own name set) (set_row name set p) rest declined writes (set_matches name set start own p m) row.1 h
@@ -144,15 +144,15 @@ pub answers_answered : (state : State) (names : List RowName) → AnsweredBy sta
 answers_answered state [] = tt
 answers_answered state (name ∷ names) = (refl, answers_answered state names)
 
--- what was asked of a reader that began with nothing is answered by its rows
-pub answered_in : (start : State) (first now : ReaderState) (reads : List Read) → first ≡ record { base = start; asked = []; refusals = 0 } → now.base ≡ first.base → now.asked ≡ first.asked ++ reads → AnsweredBy now.base now.asked → AnsweredBy start reads
-answered_in start first now reads is base asked answered =
-    let same_base : now.base ≡ start = base ∙ ap (λ r. r.base) is in
-    let same_reads : now.asked ≡ reads = asked ∙ ap (λ r. r.asked ++ reads) is in
-    subst (λ s. AnsweredBy s reads) same_base (subst (AnsweredBy now.base) same_reads answered)
+-- what a reader was asked for since it was made is answered by its rows
+pub answered_since : (state made now : State) (first names : List RowName) (reads : List Read) → made ≡ state → first ≡ [] → now ≡ made → answers_to now names ≡ answers_to made first ++ reads → AnsweredBy state reads
+answered_since state made now first names reads is none same asked =
+    let begun : answers_to made first ≡ [] = ap (answers_to made) none in
+    let all : answers_to now names ≡ reads = asked ∙ ap (λ (before : List Read). before ++ reads) begun in
+    subst (λ (s : State). AnsweredBy s reads) (same ∙ is) (subst (AnsweredBy now) all (answers_answered now names))
 
 -- a body over such a reader ends as it does on the rows
-pub rows_ending : (body : List Statement) (start : State) (first now : ReaderState) (reads : List Read) (declined : Bool) (writes : List Write) → Follows body reads declined writes →
-    first ≡ record { base = start; asked = []; refusals = 0 } → now.base ≡ first.base → now.asked ≡ first.asked ++ reads → AnsweredBy now.base now.asked → eval body start ≡ record { declined = declined; writes = writes }
-rows_ending body start first now reads declined writes follows is base asked answered =
-    follows_eval body start reads declined writes follows (answered_in start first now reads is base asked answered)
+pub ends_on_rows : (body : List Statement) (state made now : State) (first names : List RowName) (reads : List Read) (declined : Bool) (writes : List Write) → Follows body reads declined writes →
+    made ≡ state → first ≡ [] → now ≡ made → answers_to now names ≡ answers_to made first ++ reads → eval body state ≡ record { declined = declined; writes = writes }
+ends_on_rows body state made now first names reads declined writes follows is none same asked =
+    follows_eval body state reads declined writes follows (answered_since state made now first names reads is none same asked)

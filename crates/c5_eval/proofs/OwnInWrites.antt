@@ -1,4 +1,4 @@
--- The rows that writes set, as a finite map, where the changes stand in writes.
+-- The rows that writes set, as a finite map, when the changes are kept as writes.
 use Rattle.std.proofs.Common.{◌≡◌, Bool, true, false, cond, List, [], ◌∷◌, Option, Some, map, refl, ap, sym, ◌∙◌, Ordering, Less, Equal, Greater}
 use Rattle.std.specs.Prelude.{option_map}
 use Rattle.std.specs.FinMap.{get, insert, entries, from_entries, find, put, get-entries, get-from_entries, entries-insert, same_map, len-entries, len-empty, empty}

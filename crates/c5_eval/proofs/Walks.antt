@@ -7,13 +7,13 @@ use Rattle.c5_rows.specs.declared.writes.RowName.{RowName}
 use Rattle.c5_rows.specs.declared.writes.Write.{Write}
 use Rattle.c5_definitions.specs.declared.script.Statement.{Statement}
 use Rattle.c5_definitions.specs.Effects.{Effect, declines, keeps, sets, needed, effect_of}
-use Rattle.c5_definitions.specs.Follows.{Read, Own, Finds, FollowsFrom, Follows, own_writes}
+use Rattle.c5_definitions.specs.Follows.{Read, Own, FindsRow, FollowsFrom, Follows, own_writes}
 use Rattle.c5_eval.specs.declared.steps.Step.{Step}
 use Rattle.c5_eval.specs.declared.steps.Step.TheVariants.{GoesOn, Declines}
 use Rattle.c5_eval.specs.Stepping.{Acts, Takes}
 
 -- what is found over some reads is found over these and more, which are then left
-found_before : (name : Option RowName) (own : Own) (reads more : List Read) (row : Option (List Cell)) → Finds name own reads row [] → Finds name own (reads ++ more) row more
+found_before : (name : Option RowName) (own : Own) (reads more : List Read) (row : Option (List Cell)) → FindsRow name own reads row [] → FindsRow name own (reads ++ more) row more
 found_before None own reads more row finds = (finds.0, ap (λ rs. rs ++ more) finds.1)
 found_before (Some name) own reads more row finds =
     elim (get own name) as (λ o. MatchOption o (reads ≡ (name, row) ∷ []) (λ set. (row ≡ set) × ([] ≡ reads)) → MatchOption o (reads ++ more ≡ (name, row) ∷ more) (λ set. (row ≡ set) × (more ≡ reads ++ more))) [

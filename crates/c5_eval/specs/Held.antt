@@ -7,7 +7,7 @@ use Rattle.c5_rows.specs.declared.writes.Write.{Write}
 use Rattle.c5_rows.specs.Order.{row_name_cmp}
 use Rattle.c5_eval.specs.Setting.{pairs_of}
 
--- the changes in the tree, where there is one
+-- the changes in the tree if there is one, else those of the writes
 abbrev pub held_by : List Write → Option (BTreeMap RowName Change) → List (RowName × Change)
 held_by writes None = pairs_of writes
 held_by writes (Some tree) = tree.entries

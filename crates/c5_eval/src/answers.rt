@@ -1,11 +1,11 @@
 //! Read blocks.
 
 ghost use Rattle.std.specs.Prelude.{◌≡◌, ◌≤◌, ◌++◌, List, IfOk, length, map};
-ghost use Rattle.c5_definitions.specs.Effects.{number_in};
+ghost use Rattle.c5_definitions.specs.Effects.{int_in_column};
 ghost use Rattle.c5_definitions.specs.Follows.{Read};
 ghost use Rattle.c5_definitions.specs.Answers.{names_in, line_answer, sum_in, row_answer, IsAnswered, table_names, or_zero};
-ghost use Rattle.c5_eval.specs.Refusals.{HasCause};
-ghost use Rattle.c5_eval.specs.Faults.{HasReadCause, Grew};
+ghost use Rattle.c5_rows.specs.Counts.{HasCause};
+ghost use Rattle.c5_eval.specs.Faults.{HasRowCause, Grew};
 
 use crate::reading::{EvalFault, ReadRows};
 use crate::steps::number_in;
@@ -13,9 +13,9 @@ use c5_rows::{Answer, AnswerLine, Key, Row, RowName};
 use c5_script::{ReadBlock, ReadLine};
 use std::alloc::Global;
 
-// The number in a column of a row, and 0 where there is none.
+// The number in a column of a row, or 0 if there is none.
 fn number_or_zero(row: &Option<Row>, col: u8) -> i64
-    ensures { result ≡ or_zero (number_in col row.now) }
+    ensures { result ≡ or_zero (int_in_column col row.now) }
 {
     number_in(row, col).unwrap_or(0)
 }
@@ -61,7 +61,8 @@ fn line_answer<R: ReadRows>(rows: &mut R, line: &ReadLine) -> Result<AnswerLine,
     }
 }
 
-/// Answers the lines of a read block, in order. A name that stands twice is asked twice.
+/// Answers the lines of a read block, in order. A name that occurs twice is asked for twice.
+/// Returns `Read` if the reader refuses a row, and `NoMemory` if memory runs out.
 pub fn answer<R: ReadRows>(
     alloc: Global,
     read: &ReadBlock,
@@ -70,10 +71,10 @@ pub fn answer<R: ReadRows>(
     // Exactly the rows of the block were asked for, in order, and these answers make the result.
     ensures answered { IfOk result (λ answer. (reads : List Read) × (R.asked rows.new ≡ R.asked rows.old ++ reads) × IsAnswered read.now.lines reads answer) }
 
-    // Whatever is answered:
+    // For every result:
     ensures asked { Grew (R.asked rows.old) (R.asked rows.new) }
     ensures base { R.base rows.new ≡ R.base rows.old }
-    ensures cause { HasReadCause (R.refusals rows.old) (R.refusals rows.new) result }
+    ensures cause { HasRowCause (R.refusals rows.old) (R.refusals rows.new) result }
 {
     let mut answer = Answer::new(alloc);
     for line in read.lines() {

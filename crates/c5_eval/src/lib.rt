@@ -1,4 +1,4 @@
-//! What bodies of transactions do, and what read blocks are answered, over any reader of rows.
+//! Evaluates bodies of transactions, and answers read blocks, over any reader of rows.
 #![tactic(auto)]
 
 mod answers;
@@ -13,6 +13,6 @@ mod walking;
 
 pub use answers::answer;
 pub use law::evaluation_law;
-pub use over_rows::{RowsReader, answer_rows, evaluate_rows};
+pub use over_rows::{LookUpRows, RowsReader, answer_rows, evaluate_rows};
 pub use reading::{EvalFault, ReadRows};
 pub use walking::{Outcome, evaluate};

@@ -17,8 +17,8 @@ use std::collections::BTreeMap;
 use std::marker::Model;
 
 /// The rows that a body has set, each by the change that makes it.
-// While the names come nearly in order the changes stand in the writes that the body makes, where those behind a
-// new one move. From the first name on that would move many they stand in a tree.
+// While the names come nearly in order, the changes are kept as the writes that the body makes, which
+// moves the writes after a new one. From the first name on that would move many, they are in a tree.
 #[derive(Drop)]
 pub struct Own {
     alloc: Global,
@@ -45,7 +45,7 @@ impl Model for Own {
     ghost invariant = { λ o. IsOrderedIn o.tree };
 }
 
-// Sets the value of a name. One that stands is written over where it lies.
+// Sets the value of a name. An existing value is replaced in place.
 #[inline(always)]
 fn put<V: Drop>(values: &mut BTreeMap<RowName, V>, name: &RowName, value: V) -> Result<(), NoMemory>
     requires { IsOrdered row_name_cmp values.old }
@@ -89,7 +89,7 @@ fn writes_of(alloc: Global, tree: &BTreeMap<RowName, Change>) -> Result<Writes, 
 // How many writes may move when one is added.
 const FEW: usize = 16;
 
-// Whether no more than `FEW` writes stand behind the place of this name.
+// Whether at most `FEW` writes come after the place of this name.
 fn is_near_end(writes: &[Write], name: &RowName) -> bool {
     writes.len() <= FEW || writes[writes.len() - 1 - FEW].name < *name
 }
@@ -109,7 +109,7 @@ fn set_in(
     match tree {
         Some(tree) => put(tree, name, change)?,
         None => {
-            // The slice is known to ascend.
+            // Makes it known that the writes ascend.
             let _writes = writes.as_slice();
             writes.set(*name, change)?;
         }
@@ -118,7 +118,7 @@ fn set_in(
 }
 
 impl Own {
-    /// No rows, and the memory for `count` of them.
+    /// No rows, with memory for `count` of them.
     pub fn with_capacity(alloc: Global, count: usize) -> Result<Self, NoMemory>
         ensures { IfOk result (λ own. own ≡ map.empty) }
     {
@@ -129,7 +129,7 @@ impl Own {
         })
     }
 
-    /// What the body does to the row; `None` where it has not set it.
+    /// What the body does to the row, or `None` if it has not set it.
     pub fn get(&self, name: &RowName) -> Option<&Change>
         ensures { option_map row_made (option_copied result) ≡ map.get self.now name.now }
     {
@@ -139,7 +139,7 @@ impl Own {
         }
     }
 
-    // Moves the changes to a tree, where a new one of this name would move many.
+    // Moves the changes to a tree if a new one of this name would move many.
     fn make_room(&mut self, name: &RowName) -> Result<(), NoMemory>
         ensures { self.new ≡ self.old }
     {
@@ -150,7 +150,7 @@ impl Own {
         Ok(())
     }
 
-    /// Sets the row to what the change makes it.
+    /// Sets the row by this change.
     pub fn set(&mut self, name: &RowName, change: Change) -> Result<(), NoMemory>
         ensures { OnOk result (self.new ≡ map.insert self.old name.now (row_made change)) }
     {
@@ -170,7 +170,7 @@ impl Own {
         match tree {
             Some(tree) => writes_of(alloc, &tree),
             None => {
-                // The slice is known to ascend.
+                // Makes it known that the writes ascend.
                 let _writes = writes.as_slice();
                 Ok(writes)
             }

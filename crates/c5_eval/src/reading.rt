@@ -3,7 +3,7 @@
 ghost use Rattle.std.specs.Prelude.{◌≡◌, ℕ, List, Option, [], ◌∷◌, ◌++◌, IfOk, OnErr};
 ghost use Rattle.c5_rows.specs.declared.cells.Cell.{Cell};
 ghost use Rattle.c5_rows.specs.declared.writes.RowName.{RowName};
-ghost use Rattle.c5_eval.specs.Refusals.{HasCause};
+ghost use Rattle.c5_rows.specs.Counts.{HasCause};
 
 use c5_rows::{NoMemory, Row, RowName};
 
@@ -11,19 +11,19 @@ use c5_rows::{NoMemory, Row, RowName};
 pub trait ReadRows {
     /// Why a row is refused.
     type Fault;
-    /// What the reader was made with.
+    /// What the reader reads from.
     type Base;
 
     // No call changes it.
     ghost base: { Self → Self.Base };
 
-    // The names that were asked, each with its answer, in order.
+    // The names that were asked for, each with its answer, in order.
     ghost asked: { Self → List (RowName × Option (List Cell)) };
 
-    // How often a row was refused. The count never falls, and stops at `u64::MAX`.
+    // How often a row was refused. The count never falls, and saturates at `u64::MAX`.
     ghost refusals: { Self → ℕ };
 
-    /// The row of this name, or `None`.
+    /// The row of this name, or `None` if there is none.
     fn row(&mut self, name: &RowName) -> Result<Option<Row>, Self::Fault>
         ensures base { base self.new ≡ base self.old }
         ensures answered { IfOk result (λ row. asked self.new ≡ asked self.old ++ (name.now, row) ∷ []) }
@@ -31,12 +31,12 @@ pub trait ReadRows {
         ensures cause { HasCause (refusals self.old) (refusals self.new) result };
 }
 
-/// Why a body or a read block was not read to its end.
-#[derive(Debug, Drop)]
+/// Why a body was not evaluated, or a read block not answered.
+#[derive(Drop)]
 pub enum EvalFault<F> {
-    /// A row was refused.
+    /// The reader refused a row.
     Read(F),
-    /// Memory was refused.
+    /// Out of memory.
     NoMemory,
 }
 

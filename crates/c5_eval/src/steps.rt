@@ -2,12 +2,12 @@
 
 ghost use Rattle.std.specs.Prelude.{◌≡◌, ◌<◌, length, MatchOption, ◌++◌, ◌∷◌, List, Option, Some, None, [], IfOk, OnErr, if◌then◌else◌};
 ghost use Rattle.c5_definitions.specs.Eval.{change_to};
-ghost use Rattle.c5_definitions.specs.Effects.{number_in, compares, add_effect, need_effect, keeps, declines, sets};
-ghost use Rattle.c5_definitions.specs.Follows.{Read, Finds};
+ghost use Rattle.c5_definitions.specs.Effects.{int_in_column, compares, add_effect, need_effect, keeps, declines, sets};
+ghost use Rattle.c5_definitions.specs.Follows.{Read, FindsRow};
 ghost use Rattle.c5_rows.specs.declared.cells.Cell.{Cell};
 ghost use Rattle.c5_rows.specs.declared.writes.RowName.{RowName};
-ghost use Rattle.c5_eval.specs.Refusals.{HasCause};
-ghost use Rattle.c5_eval.specs.Faults.{HasReadCause, Grew};
+ghost use Rattle.c5_rows.specs.Counts.{HasCause};
+ghost use Rattle.c5_eval.specs.Faults.{HasRowCause, Grew};
 ghost use Rattle.c5_eval.specs.Setting.{row_made};
 ghost use Rattle.c5_eval.specs.Stepping.{Acts, Takes, set_cell_or_declined};
 
@@ -16,18 +16,18 @@ use crate::reading::{EvalFault, ReadRows};
 use c5_rows::{Cell, Change, NoMemory, Row, RowName};
 use c5_script::{Rel, Statement};
 
-/// What follows on a statement.
+/// What comes after a statement.
 #[derive(Drop)]
 pub enum Step {
     /// The next one.
     GoesOn,
-    /// Nothing: it has declined.
+    /// Nothing: the statement declined.
     Declines,
 }
 
-// The number in a column of a row; `None` where there is none.
+// The number in a column of a row, or `None` if there is none.
 fn number_of(row: &Row, col: u8) -> Option<i64>
-    ensures { result ≡ number_in col (Some row.now) }
+    ensures { result ≡ int_in_column col (Some row.now) }
 {
     match row.cells().get(col as usize) {
         Some(Cell::Int(n)) => Some(*n),
@@ -35,9 +35,9 @@ fn number_of(row: &Row, col: u8) -> Option<i64>
     }
 }
 
-/// The number in a column of a row that may be absent; `None` where there is none.
+/// The number in a column of a row that may be absent, or `None` if there is none.
 pub fn number_in(row: &Option<Row>, col: u8) -> Option<i64>
-    ensures { result ≡ number_in col row.now }
+    ensures { result ≡ int_in_column col row.now }
 {
     match row {
         Some(row) => number_of(row, col),
@@ -45,9 +45,9 @@ pub fn number_in(row: &Option<Row>, col: u8) -> Option<i64>
     }
 }
 
-// The number in a column of the row that a change makes; `None` where there is none.
+// The number in a column of the row that a change makes, or `None` if there is none.
 fn number_made(change: &Change, col: u8) -> Option<i64>
-    ensures { result ≡ number_in col (row_made change.now) }
+    ensures { result ≡ int_in_column col (row_made change.now) }
 {
     match change {
         Change::Put(row) => number_of(row, col),
@@ -91,7 +91,7 @@ fn change_to(row: Option<Row>) -> Change
 // The number in a column of the row that the reader answers.
 #[inline(never)]
 fn asked_number<R: ReadRows>(rows: &mut R, name: &RowName, col: u8) -> Result<Option<i64>, R::Fault>
-    ensures answered { IfOk result (λ number. (found : Option (List Cell)) × (R.asked rows.new ≡ R.asked rows.old ++ (name.now, found) ∷ []) × (number ≡ number_in col found)) }
+    ensures answered { IfOk result (λ number. (found : Option (List Cell)) × (R.asked rows.new ≡ R.asked rows.old ++ (name.now, found) ∷ []) × (number ≡ int_in_column col found)) }
     ensures refused { OnErr result (R.asked rows.new ≡ R.asked rows.old) }
     ensures base { R.base rows.new ≡ R.base rows.old }
     ensures cause { HasCause (R.refusals rows.old) (R.refusals rows.new) result }
@@ -107,7 +107,7 @@ fn number_at<R: ReadRows>(
     name: &RowName,
     col: u8,
 ) -> Result<Option<i64>, R::Fault>
-    ensures found { IfOk result (λ number. (reads : List Read) × (R.asked rows.new ≡ R.asked rows.old ++ reads) × (found : Option (List Cell)) × Finds (Some name.now) own.now reads found [] × (number ≡ number_in col found)) }
+    ensures found { IfOk result (λ number. (reads : List Read) × (R.asked rows.new ≡ R.asked rows.old ++ reads) × (found : Option (List Cell)) × FindsRow (Some name.now) own.now reads found [] × (number ≡ int_in_column col found)) }
     ensures refused { OnErr result (R.asked rows.new ≡ R.asked rows.old) }
     ensures base { R.base rows.new ≡ R.base rows.old }
     ensures cause { HasCause (R.refusals rows.old) (R.refusals rows.new) result }
@@ -118,9 +118,9 @@ fn number_at<R: ReadRows>(
     }
 }
 
-// What the row as the body has set it, or else as the reader answers, becomes.
+// The change that makes a row what the body has set it to, or else what the reader answers.
 fn change_of<R: ReadRows>(own: &Own, rows: &mut R, name: &RowName) -> Result<Change, R::Fault>
-    ensures found { IfOk result (λ change. (reads : List Read) × (R.asked rows.new ≡ R.asked rows.old ++ reads) × Finds (Some name.now) own.now reads (row_made change) []) }
+    ensures found { IfOk result (λ change. (reads : List Read) × (R.asked rows.new ≡ R.asked rows.old ++ reads) × FindsRow (Some name.now) own.now reads (row_made change) []) }
     ensures refused { OnErr result (R.asked rows.new ≡ R.asked rows.old) }
     ensures base { R.base rows.new ≡ R.base rows.old }
     ensures cause { HasCause (R.refusals rows.old) (R.refusals rows.new) result }
@@ -131,7 +131,7 @@ fn change_of<R: ReadRows>(own: &Own, rows: &mut R, name: &RowName) -> Result<Cha
     }
 }
 
-// Sets a row without a look at any.
+// Sets a row without reading any.
 #[inline(always)]
 fn set(own: &mut Own, name: &RowName, change: Change) -> Result<Step, NoMemory>
     ensures { IfOk result (λ step. Acts (sets name.now (row_made change)) own.old own.new step) }
@@ -169,7 +169,7 @@ fn need<R: ReadRows>(
     ensures takes { IfOk result (λ step. (reads : List Read) × (R.asked rows.new ≡ R.asked rows.old ++ reads) × Takes (Statement.Need name.now col rel n) own.old own.new reads step) }
     ensures asked { Grew (R.asked rows.old) (R.asked rows.new) }
     ensures base { R.base rows.new ≡ R.base rows.old }
-    ensures cause { HasReadCause (R.refusals rows.old) (R.refusals rows.new) result }
+    ensures cause { HasRowCause (R.refusals rows.old) (R.refusals rows.new) result }
 {
     let number = match number_at(own, rows, name, col) {
         Ok(number) => number,
@@ -182,17 +182,17 @@ fn need<R: ReadRows>(
     }
 }
 
-// The number in the column with `n` added; `None` where there is no number, or the sum is no i64.
+// The number in the column plus `n`, or `None` if there is no number or the sum overflows an i64.
 fn sum_of(row: &Row, col: u8, n: i64) -> Option<i64>
-    ensures effect { (name : RowName) → add_effect name col (Some row.now) (number_in col (Some row.now)) n ≡ set_cell_or_declined name row.now col result }
+    ensures effect { (name : RowName) → add_effect name col (Some row.now) (int_in_column col (Some row.now)) n ≡ set_cell_or_declined name row.now col result }
     ensures within { MatchOption result (Unit {0}) (λ _. col < length row.now) }
 {
     number_of(row, col)?.checked_add(n)
 }
 
-// Adds to a number of this row and sets it so, or declines.
+// Sets the row with `n` added to the number in a column, or declines.
 fn add_to(own: &mut Own, name: &RowName, row: &mut Row, col: u8, n: i64) -> Result<Step, NoMemory>
-    ensures { IfOk result (λ step. Acts (add_effect name.now col (Some row.old) (number_in col (Some row.old)) n) own.old own.new step) }
+    ensures { IfOk result (λ step. Acts (add_effect name.now col (Some row.old) (int_in_column col (Some row.old)) n) own.old own.new step) }
 {
     match sum_of(row, col, n) {
         Some(sum) => {
@@ -203,7 +203,7 @@ fn add_to(own: &mut Own, name: &RowName, row: &mut Row, col: u8, n: i64) -> Resu
     }
 }
 
-// Adds to a number of the row that this change makes, or declines.
+// The same for the row that this change makes.
 #[inline(never)]
 fn add_again(
     own: &mut Own,
@@ -212,7 +212,7 @@ fn add_again(
     col: u8,
     n: i64,
 ) -> Result<Step, NoMemory>
-    ensures { IfOk result (λ step. Acts (add_effect name.now col (row_made change) (number_in col (row_made change)) n) own.old own.new step) }
+    ensures { IfOk result (λ step. Acts (add_effect name.now col (row_made change) (int_in_column col (row_made change)) n) own.old own.new step) }
 {
     match change {
         Change::Put(mut row) => add_to(own, name, &mut row, col, n),
@@ -220,7 +220,7 @@ fn add_again(
     }
 }
 
-// Adds to a number of the row that the reader answers, or declines.
+// The same for the row that the reader answers.
 #[inline(never)]
 fn add_asked<R: ReadRows>(
     own: &mut Own,
@@ -229,10 +229,10 @@ fn add_asked<R: ReadRows>(
     col: u8,
     n: i64,
 ) -> Result<Step, EvalFault<R::Fault>>
-    ensures takes { IfOk result (λ step. (found : Option (List Cell)) × (R.asked rows.new ≡ R.asked rows.old ++ (name.now, found) ∷ []) × Acts (add_effect name.now col found (number_in col found) n) own.old own.new step) }
+    ensures takes { IfOk result (λ step. (found : Option (List Cell)) × (R.asked rows.new ≡ R.asked rows.old ++ (name.now, found) ∷ []) × Acts (add_effect name.now col found (int_in_column col found) n) own.old own.new step) }
     ensures asked { Grew (R.asked rows.old) (R.asked rows.new) }
     ensures base { R.base rows.new ≡ R.base rows.old }
-    ensures cause { HasReadCause (R.refusals rows.old) (R.refusals rows.new) result }
+    ensures cause { HasRowCause (R.refusals rows.old) (R.refusals rows.new) result }
 {
     match rows.row(name) {
         Ok(Some(mut row)) => Ok(add_to(own, name, &mut row, col, n)?),
@@ -241,7 +241,7 @@ fn add_asked<R: ReadRows>(
     }
 }
 
-// Adds to a number of the row, or declines.
+// Adds `n` to the number in a column of a row, or declines.
 fn add<R: ReadRows>(
     own: &mut Own,
     rows: &mut R,
@@ -252,7 +252,7 @@ fn add<R: ReadRows>(
     ensures takes { IfOk result (λ step. (reads : List Read) × (R.asked rows.new ≡ R.asked rows.old ++ reads) × Takes (Statement.Add name.now col n) own.old own.new reads step) }
     ensures asked { Grew (R.asked rows.old) (R.asked rows.new) }
     ensures base { R.base rows.new ≡ R.base rows.old }
-    ensures cause { HasReadCause (R.refusals rows.old) (R.refusals rows.new) result }
+    ensures cause { HasRowCause (R.refusals rows.old) (R.refusals rows.new) result }
 {
     match own.get(name) {
         Some(change) => {
@@ -274,7 +274,7 @@ fn copy<R: ReadRows>(
     ensures takes { IfOk result (λ step. (reads : List Read) × (R.asked rows.new ≡ R.asked rows.old ++ reads) × Takes (Statement.Copy from.now to.now) own.old own.new reads step) }
     ensures asked { Grew (R.asked rows.old) (R.asked rows.new) }
     ensures base { R.base rows.new ≡ R.base rows.old }
-    ensures cause { HasReadCause (R.refusals rows.old) (R.refusals rows.new) result }
+    ensures cause { HasRowCause (R.refusals rows.old) (R.refusals rows.new) result }
 {
     match change_of(own, rows, from) {
         Ok(change) => Ok(set(own, to, change)?),
@@ -282,7 +282,7 @@ fn copy<R: ReadRows>(
     }
 }
 
-/// One statement, which uses and changes the rows that the body has set.
+/// Performs one statement, which reads and changes the rows that the body has set.
 pub fn perform<R: ReadRows>(
     statement: &Statement,
     own: &mut Own,
@@ -291,7 +291,7 @@ pub fn perform<R: ReadRows>(
     ensures takes { IfOk result (λ step. (reads : List Read) × (R.asked rows.new ≡ R.asked rows.old ++ reads) × Takes statement.now own.old own.new reads step) }
     ensures asked { Grew (R.asked rows.old) (R.asked rows.new) }
     ensures base { R.base rows.new ≡ R.base rows.old }
-    ensures cause { HasReadCause (R.refusals rows.old) (R.refusals rows.new) result }
+    ensures cause { HasRowCause (R.refusals rows.old) (R.refusals rows.new) result }
 {
     match statement {
         Statement::Put { name, row } => Ok(put(own, name, row)?),

@@ -3,7 +3,7 @@
 ghost use Rattle.std.specs.Prelude.{◌≡◌, ◌++◌, List, [], IfOk, if◌then◌else◌, length, filter};
 ghost use Rattle.c5_definitions.specs.Follows.{Read, Follows, own_writes};
 ghost use Rattle.c5_eval.specs.Setting.{may_set};
-ghost use Rattle.c5_eval.specs.Faults.{HasReadCause, Grew};
+ghost use Rattle.c5_eval.specs.Faults.{HasRowCause, Grew};
 
 use crate::own::Own;
 use crate::reading::{EvalFault, ReadRows};
@@ -13,11 +13,11 @@ use c5_script::{Body, Statement};
 use std::alloc::Global;
 
 /// How a body ended.
-#[derive(Debug, Drop)]
+#[derive(Drop)]
 pub struct Outcome {
     /// A statement declined. Then there are no writes.
     pub declined: bool,
-    /// One write for each row that was set.
+    /// One write for each row that was set, ascending by name.
     pub writes: Writes,
 }
 
@@ -50,7 +50,8 @@ fn setting(statements: &[Statement]) -> usize
         .count()
 }
 
-/// Reads a body from top to bottom. A row that it has set itself is not asked for.
+/// Evaluates a body from its first statement to its last. A row that it has set itself is not asked
+/// for. Returns `Read` if the reader refuses a row, and `NoMemory` if memory runs out.
 pub fn evaluate<R: ReadRows>(
     alloc: Global,
     body: &Body,
@@ -59,12 +60,12 @@ pub fn evaluate<R: ReadRows>(
     // The outcome follows from the answers of this call.
     ensures follows { IfOk result (λ outcome. (reads : List Read) × (R.asked rows.new ≡ R.asked rows.old ++ reads) × Follows body.now reads outcome.declined outcome.writes) }
 
-    // Whatever is answered:
+    // For every result:
     ensures asked { Grew (R.asked rows.old) (R.asked rows.new) }
     ensures base { R.base rows.new ≡ R.base rows.old }
-    ensures cause { HasReadCause (R.refusals rows.old) (R.refusals rows.new) result }
+    ensures cause { HasRowCause (R.refusals rows.old) (R.refusals rows.new) result }
 {
-    // The writes have as much memory as they may need, so that they are never moved.
+    // The memory for all writes is taken at once, so that they never move.
     let mut own = Own::with_capacity(alloc, setting(body.statements()))?;
     for statement in body.statements() {
         match perform(statement, &mut own, rows)? {

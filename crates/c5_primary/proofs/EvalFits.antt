@@ -20,14 +20,14 @@ use Rattle.c5_rows.specs.declared.writes.RowName.{RowName}
 use Rattle.c5_rows.specs.declared.writes.Change.{Change}
 use Rattle.c5_rows.specs.declared.writes.Change.TheVariants as changes
 use Rattle.c5_rows.specs.declared.writes.Write.{Write}
-use Rattle.c5_rows.specs.Fitting.{FitsTables}
+use Rattle.c5_rows.specs.Fitting.{FitsTables, RowFits}
 use Rattle.c5_definitions.specs.declared.script.Statement.{Statement}
 use Rattle.c5_definitions.specs.declared.script.Statement.TheVariants.{Put, Del, Need, Add, Copy}
 use Rattle.c5_definitions.specs.declared.script.Rel.{Rel}
-use Rattle.c5_definitions.specs.Effects.{Effect, declines, keeps, sets, needed, effect_of, number_of, number_in, need_effect, add_effect, compares, fits_i64}
-use Rattle.c5_definitions.specs.Eval.{Progress, change_to, write_of, row_in, set_row, run, ending_of, eval}
+use Rattle.c5_definitions.specs.Effects.{Effect, declines, keeps, sets, needed, effect_of, int_of_cell, int_in_column, need_effect, add_effect, compares, fits_i64}
+use Rattle.c5_definitions.specs.Eval.{BodySoFar, change_to, write_of, row_needed, set_row, after_statements, ending_of, eval}
 use Rattle.c5_definitions.specs.Lawful.{IsLawfulCell, IsLawfulChange, IsLawfulWrite}
-use Rattle.c5_definitions.specs.FitsScript.{HasTable, HasRow, StatementFits, BodyFits, IsStatement}
+use Rattle.c5_definitions.specs.FitsScript.{HasTable, StatementFits, BodyFits, IsStatement}
 use Rattle.c5_definitions.specs.FitsState.{IsNameIn, IsRowIn, MayBeIn, StateFits}
 
 -- ---- tables by their numbers
@@ -84,7 +84,7 @@ changed tables name col row a b is found fits = record {
   fits = subst (λ (ts : List CellType). MatchOption (slice_get tables name.table) ⊥ (λ table. ts ≡ table.columns)) (sym (types_stay row col a b found)) is.fits;
 }
 
-add_fits : (tables : List TableDef) (name : RowName) (col : ℕ) (found : Option (List Cell)) (n : ℤ) → MayBeIn tables name found → EffectFits tables (add_effect name col found (number_in col found) n)
+add_fits : (tables : List TableDef) (name : RowName) (col : ℕ) (found : Option (List Cell)) (n : ℤ) → MayBeIn tables name found → EffectFits tables (add_effect name col found (int_in_column col found) n)
 add_fits tables name col None n is = tt
 add_fits tables name col (Some row) n is = by_cell (slice_get row col) refl
   where
@@ -95,7 +95,7 @@ add_fits tables name col (Some row) n is = by_cell (slice_get row col) refl
         (name_of_row tables name row there, λ (r : List Cell) (e : Some (slice_set row col (Int b)) ≡ Some r). subst (IsRowIn tables name) (ap (λ (o : Option (List Cell)). elim o [ Some x ↦ x | None ↦ [] ]) e) new)
     by_sum a b at false fits = tt
 
-    by_cell : (cell : Option Cell) → slice_get row col ≡ cell → EffectFits tables (add_effect name col (Some row) (number_of cell) n)
+    by_cell : (cell : Option Cell) → slice_get row col ≡ cell → EffectFits tables (add_effect name col (Some row) (int_of_cell cell) n)
     by_cell None at = tt
     by_cell (Some (Int a)) at = by_sum a (a +ℤ n) at (fits_i64 (a +ℤ n)) refl
     by_cell (Some (Txt bytes)) at = tt
@@ -110,23 +110,23 @@ IsMissing (Some row) = ⊥
 no_row : (tables : List TableDef) (name : RowName) → MayBeIn tables name None
 no_row tables name = λ (r : List Cell) (e : None ≡ Some r). absurd (subst IsMissing e tt)
 
-effect_fits : (tables : List TableDef) (statement : Statement) (state : State) → StatementFits tables statement → IsStatement statement → StateFits tables state → EffectFits tables (effect_of statement (row_in (needed statement) state))
+effect_fits : (tables : List TableDef) (statement : Statement) (state : State) → StatementFits tables statement → IsStatement statement → StateFits tables state → EffectFits tables (effect_of statement (row_needed (needed statement) state))
 effect_fits tables (Put name row) state fits is all =
     let there : IsRowIn tables name row = record { key = is.0; cells = is.1; fits = fits } in
     (name_of_row tables name row there, the_row tables name row there)
 effect_fits tables (Del name) state fits is all = (record { key = is; table = fits }, no_row tables name)
-effect_fits tables (Need name col rel n) state fits is all = need_fits tables (number_in col (map.get state name)) rel n
+effect_fits tables (Need name col rel n) state fits is all = need_fits tables (int_in_column col (map.get state name)) rel n
 effect_fits tables (Add name col n) state fits is all = add_fits tables name col (map.get state name) n (all name)
 effect_fits tables (Copy from to) state fits is all = (
   record { key = is.1; table = subst (HasTable tables) fits.1 fits.0 },
   λ (row : List Cell) (e : map.get state from ≡ Some row).
       let there = all from row e in
-      record { key = is.1; cells = there.cells; fits = subst (λ (n : ℕ). HasRow tables n row) fits.1 there.fits },
+      record { key = is.1; cells = there.cells; fits = subst (λ (n : ℕ). RowFits tables n row) fits.1 there.fits },
 )
 
 -- ---- states
 
-same_name : (a b : RowName) → eq_by_cmp row_name_cmp a b ≡ true → a ≡ b
+pub same_name : (a b : RowName) → eq_by_cmp row_name_cmp a b ≡ true → a ≡ b
 same_name a b tie = row_name_cmp_exact a b ((Equal-is (row_name_cmp a b)).0 tie)
 
 at_one : (tables : List TableDef) (name q : RowName) (b : Bool) → eq_by_cmp row_name_cmp q name ≡ b → (new old : Option (List Cell)) → MayBeIn tables name new → MayBeIn tables q old → MayBeIn tables q (cond b new old)
@@ -155,17 +155,17 @@ StateFits-after_writes tables (write ∷ writes) state lawful all =
     let first = lawful.0 in
     StateFits-after_writes tables writes (after_change write.name write.change state) lawful.1 (one_write tables write.name write.change state first.key first.change first.fits all)
 
-or_true : (b : Bool) → (b || true) ≡ true
+pub or_true : (b : Bool) → (b || true) ≡ true
 or_true true = refl
 or_true false = refl
 
 -- ---- whole bodies
 
-record ProgressFits (tables : List TableDef) (p : Progress) : Type 0 where
+record ProgressFits (tables : List TableDef) (p : BodySoFar) : Type 0 where
   state : StateFits tables p.state
   noted : (name : RowName) → map.contains_key p.noted name ≡ true → IsNameIn tables name
 
-abbrev EndFits : List TableDef → Option Progress → Type 0
+abbrev EndFits : List TableDef → Option BodySoFar → Type 0
 EndFits tables None = Unit {0}
 EndFits tables (Some p) = ProgressFits tables p
 
@@ -177,23 +177,23 @@ some_or : (b : Bool) (found : Option (Unit {0})) → is_some (cond b (Some tt) f
 some_or true found = refl
 some_or false found = refl
 
-contains-insert : (noted : map.FinMap row_name_cmp (Unit {0})) (name q : RowName) → map.contains_key (map.insert noted name tt) q ≡ (eq_by_cmp row_name_cmp q name || map.contains_key noted q)
+pub contains-insert : (noted : map.FinMap row_name_cmp (Unit {0})) (name q : RowName) → map.contains_key (map.insert noted name tt) q ≡ (eq_by_cmp row_name_cmp q name || map.contains_key noted q)
 contains-insert noted name q = ap is_some (map.get-insert row_name_cmp_total noted name tt q) ∙ some_or (eq_by_cmp row_name_cmp q name) (map.get noted q)
 
-set_fits : (tables : List TableDef) (name : RowName) (found : Option (List Cell)) (p : Progress) → IsNameIn tables name → MayBeIn tables name found → ProgressFits tables p → ProgressFits tables (set_row name found p)
+set_fits : (tables : List TableDef) (name : RowName) (found : Option (List Cell)) (p : BodySoFar) → IsNameIn tables name → MayBeIn tables name found → ProgressFits tables p → ProgressFits tables (set_row name found p)
 set_fits tables name found p is row so_far = record {
   state = change_fits tables name found p.state row so_far.state;
   noted = λ (q : RowName) (h : map.contains_key (map.insert p.noted name tt) q ≡ true).
       noted_more tables name q (eq_by_cmp row_name_cmp q name) (map.contains_key p.noted q) refl is (so_far.noted q) (sym (contains-insert p.noted name q) ∙ h);
 }
 
-run_fits : (tables : List TableDef) (body : List Statement) (p : Progress) → BodyFits tables body → AllByRecursion IsStatement body → ProgressFits tables p → EndFits tables (run body p)
+run_fits : (tables : List TableDef) (body : List Statement) (p : BodySoFar) → BodyFits tables body → AllByRecursion IsStatement body → ProgressFits tables p → EndFits tables (after_statements body p)
 run_fits tables [] p fits is so_far = so_far
 run_fits tables (statement ∷ statements) p fits is so_far =
-    by (λ q q_fits. run_fits tables statements q fits.1 is.1 q_fits) (effect_of statement (row_in (needed statement) p.state)) (effect_fits tables statement p.state fits.0 is.0 so_far.state)
+    by (λ q q_fits. run_fits tables statements q fits.1 is.1 q_fits) (effect_of statement (row_needed (needed statement) p.state)) (effect_fits tables statement p.state fits.0 is.0 so_far.state)
   where
-    by : ((q : Progress) → ProgressFits tables q → EndFits tables (run statements q)) → (effect : Effect) → EffectFits tables effect
-        → EndFits tables (elim effect [ declines ↦ None | keeps ↦ run statements p | sets name row ↦ run statements (set_row name row p) ])
+    by : ((q : BodySoFar) → ProgressFits tables q → EndFits tables (after_statements statements q)) → (effect : Effect) → EffectFits tables effect
+        → EndFits tables (elim effect [ declines ↦ None | keeps ↦ after_statements statements p | sets name row ↦ after_statements statements (set_row name row p) ])
     by rest declines e = tt
     by rest keeps e = rest p so_far
     by rest (sets name found) e = rest (set_row name found p) (set_fits tables name found p e.0 e.1 so_far)
@@ -210,7 +210,7 @@ lawful_writes tables state (k ∷ ks) all each = (
   lawful_writes tables state ks all (λ (q : RowName) (h : list_any (eq_by_cmp row_name_cmp q) ks ≡ true). each q (ap (λ (b : Bool). eq_by_cmp row_name_cmp q k || b) h ∙ or_true (eq_by_cmp row_name_cmp q k))),
 )
 
-ending_fits : (tables : List TableDef) (end : Option Progress) → EndFits tables end → AllByRecursion (IsLawfulWrite tables) (ending_of end).writes
+ending_fits : (tables : List TableDef) (end : Option BodySoFar) → EndFits tables end → AllByRecursion (IsLawfulWrite tables) (ending_of end).writes
 ending_fits tables None fits = tt
 ending_fits tables (Some p) fits =
     lawful_writes tables p.state (map.keys p.noted) fits.state (λ (q : RowName) (h : list_any (eq_by_cmp row_name_cmp q) (map.keys p.noted) ≡ true). fits.noted q (map.contains_key-keys p.noted q ∙ h))
@@ -219,5 +219,5 @@ ending_fits tables (Some p) fits =
 pub eval-lawful : (tables : List TableDef) (body : List Statement) (state : State) → BodyFits tables body → AllByRecursion IsStatement body → StateFits tables state → AllByRecursion (IsLawfulWrite tables) (eval body state).writes
 unfolding eval
 eval-lawful tables body state fits is all =
-    ending_fits tables (run body (record { state = state; noted = map.empty }))
+    ending_fits tables (after_statements body (record { state = state; noted = map.empty }))
     (run_fits tables body (record { state = state; noted = map.empty }) fits is (record { state = all; noted = λ (name : RowName) (h : map.contains_key (map.empty {X = Unit {0}} {R = row_name_cmp}) name ≡ true). absurd (false≢true (sym (ap is_some (map.get-empty row_name_cmp name)) ∙ h)) }))

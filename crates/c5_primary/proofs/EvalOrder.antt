@@ -9,7 +9,7 @@ use Rattle.c5_rows.specs.Writes.{IsAscending, IsBelowFirst}
 use Rattle.c5_rows.specs.declared.writes.RowName.{RowName}
 use Rattle.c5_rows.specs.declared.writes.Write.{Write}
 use Rattle.c5_definitions.specs.declared.script.Statement.{Statement}
-use Rattle.c5_definitions.specs.Eval.{Progress, write_of, ending_of, eval}
+use Rattle.c5_definitions.specs.Eval.{BodySoFar, write_of, ending_of, eval}
 
 -- a write of what the state has, for each name
 abbrev writes_at : State → List (RowName × Unit {0}) → List Write
@@ -39,7 +39,7 @@ entries_ascend state (e ∷ es) up = (
   entries_ascend state es (second (below_all row_name_cmp e.0 es) (is_sorted row_name_cmp es) up),
 )
 
-ending_ascends : (end : Option Progress) → IsAscending (ending_of end).writes
+ending_ascends : (end : Option BodySoFar) → IsAscending (ending_of end).writes
 ending_ascends None = tt
 ending_ascends (Some p) = entries_ascend p.state (entries p.noted) (entries_sorted p.noted)
 

@@ -1,6 +1,6 @@
 -- The rows after one more transaction.
 use Rattle.std.proofs.Common.{◌≡◌, ◌<◌, ◌∙◌, ℕ, zero, suc, Bool, true, false, cond, List, [], ◌∷◌, ◌++◌, Option, Some, None, MatchOption, Less, Equal, Greater, length, get_or, refl, ap, sym, subst, arith}
-use Rattle.std.specs.FinMap.{empty, get, get-insert, get-remove, get-empty}
+use Rattle.std.specs.FinMap.{get, get-insert, get-remove}
 use Rattle.std.specs.Ordering.{eq_by_cmp, is_eq, ordering_reverse}
 use Rattle.std.specs.BTreeMap.{is_at}
 use Rattle.std.specs.Cmp.{eq_by_cmp_equiv}
@@ -16,8 +16,6 @@ use Rattle.c5_rows.specs.Order.{row_name_cmp, row_name_cmp_total}
 use Rattle.c5_rows.specs.State.{State, after_change, after_writes, after_txns}
 use Rattle.c5_rows.specs.Writes.{IsBelowFirst, IsAscending, change_of}
 use Rattle.c5_rows.proofs.WriteLemmas.{first_below, change_of-gap}
-use Rattle.c5_definitions.specs.Follows.{Read, AnsweredBy}
-use Rattle.c5_eval.specs.Reader.{ReaderState}
 use Rattle.c5_primary.specs.Latest.{row_left, place_at, noted, IsLeftAt, LeadsToRows}
 
 -- ---- a row after writes
@@ -31,7 +29,7 @@ get-after_change : (name : RowName) (change : Change) (state : State) (q : RowNa
 get-after_change name (Put row) state q = get-insert row_name_cmp_total state name row q
 get-after_change name Gone state q = get-remove row_name_cmp_total state name q
 
--- none of the writes behind a write has its name
+-- none of the writes after a write has its name
 no-other : (q name : RowName) (writes : List Write) → row_name_cmp q name ≡ Equal → IsBelowFirst name writes → IsAscending writes → change_of q writes ≡ None
 no-other q name writes same below up =
     change_of-gap q writes 0 (omega arith) (λ k d low high. absurd (omega arith))
@@ -94,47 +92,38 @@ abbrev Leaves : RowName → Option (List Cell) → Option Txn → Type 0
 Leaves q row found = MatchOption found ⊥ (λ t. row ≡ row_left (change_of q t.writes))
 
 -- a row that the new transaction leaves alone
-kept : (txns : List Txn) (txn : Txn) (q : RowName) (place : Option ℕ) → IsLeftAt txns q place → get (after_txns (txns ++ txn ∷ []) (empty {R = row_name_cmp})) q ≡ get (after_txns txns (empty {R = row_name_cmp})) q → IsLeftAt (txns ++ txn ∷ []) q place
-kept txns txn q None left same = same ∙ left
-kept txns txn q (Some place) left same = by (slice_get txns place) refl left
+kept : (start : State) (txns : List Txn) (txn : Txn) (q : RowName) (place : Option ℕ) → IsLeftAt start txns q place → get (after_txns (txns ++ txn ∷ []) start) q ≡ get (after_txns txns start) q → IsLeftAt start (txns ++ txn ∷ []) q place
+kept start txns txn q None left same = same ∙ left
+kept start txns txn q (Some place) left same = by (slice_get txns place) refl left
   where
-    by : (found : Option Txn) → slice_get txns place ≡ found → Leaves q (get (after_txns txns (empty {R = row_name_cmp})) q) found → Leaves q (get (after_txns (txns ++ txn ∷ []) (empty {R = row_name_cmp})) q) (slice_get (txns ++ txn ∷ []) place)
+    by : (found : Option Txn) → slice_get txns place ≡ found → Leaves q (get (after_txns txns start) q) found → Leaves q (get (after_txns (txns ++ txn ∷ []) start) q) (slice_get (txns ++ txn ∷ []) place)
     by None at h = absurd h
-    by (Some t) at h = subst (Leaves q (get (after_txns (txns ++ txn ∷ []) (empty {R = row_name_cmp})) q)) (sym (still_there txns txn t place at)) (same ∙ h)
+    by (Some t) at h = subst (Leaves q (get (after_txns (txns ++ txn ∷ []) start) q)) (sym (still_there txns txn t place at)) (same ∙ h)
 
-pub leads-further : (txns : List Txn) (txn : Txn) (old new : List (RowName × ℕ)) → IsAscending txn.writes → LeadsToRows txns old → ((q : RowName) → place_at new q ≡ noted txn.writes (length txns) q (place_at old q)) → LeadsToRows (txns ++ txn ∷ []) new
-leads-further txns txn old new up leads is q =
-    subst (IsLeftAt (txns ++ txn ∷ []) q) (sym (is q ∙ noted-change txn.writes (length txns) q (place_at old q))) (by (change_of q txn.writes) refl)
+pub leads-further : (start : State) (txns : List Txn) (txn : Txn) (old new : List (RowName × ℕ)) → IsAscending txn.writes → LeadsToRows start txns old → ((q : RowName) → place_at new q ≡ noted txn.writes (length txns) q (place_at old q)) → LeadsToRows start (txns ++ txn ∷ []) new
+leads-further start txns txn old new up leads is q =
+    subst (IsLeftAt start (txns ++ txn ∷ []) q) (sym (is q ∙ noted-change txn.writes (length txns) q (place_at old q))) (by (change_of q txn.writes) refl)
   where
-    after : get (after_txns (txns ++ txn ∷ []) (empty {R = row_name_cmp})) q ≡ left_or (change_of q txn.writes) (get (after_txns txns (empty {R = row_name_cmp})) q)
-    after = ap (λ (s : State). get s q) (after_txns-push txns txn (empty {R = row_name_cmp})) ∙ get-after_writes txn.writes (after_txns txns (empty {R = row_name_cmp})) q up
+    after : get (after_txns (txns ++ txn ∷ []) start) q ≡ left_or (change_of q txn.writes) (get (after_txns txns start) q)
+    after = ap (λ (s : State). get s q) (after_txns-push txns txn start) ∙ get-after_writes txn.writes (after_txns txns start) q up
 
-    by : (change : Option Change) → change_of q txn.writes ≡ change → IsLeftAt (txns ++ txn ∷ []) q (place_or change (length txns) (place_at old q))
-    by None e = kept txns txn q (place_at old q) (leads q) (after ∙ ap (λ c. left_or c (get (after_txns txns (empty {R = row_name_cmp})) q)) e)
+    by : (change : Option Change) → change_of q txn.writes ≡ change → IsLeftAt start (txns ++ txn ∷ []) q (place_or change (length txns) (place_at old q))
+    by None e = kept start txns txn q (place_at old q) (leads q) (after ∙ ap (λ c. left_or c (get (after_txns txns start) q)) e)
     by (Some change) e =
-        subst (Leaves q (get (after_txns (txns ++ txn ∷ []) (empty {R = row_name_cmp})) q)) (sym (at_end txns txn))
-        (after ∙ ap (λ c. left_or c (get (after_txns txns (empty {R = row_name_cmp})) q)) e ∙ sym (ap row_left e))
+        subst (Leaves q (get (after_txns (txns ++ txn ∷ []) start) q)) (sym (at_end txns txn))
+        (after ∙ ap (λ c. left_or c (get (after_txns txns start) q)) e ∙ sym (ap row_left e))
 
-pub leads-first : (txns : List Txn) (places : List (RowName × ℕ)) → txns ≡ [] → places ≡ [] → LeadsToRows txns places
-leads-first txns places none nowhere = rw (none, nowhere) (λ q. get-empty row_name_cmp q)
+pub leads-first : (start : State) (txns : List Txn) (places : List (RowName × ℕ)) → txns ≡ [] → places ≡ [] → LeadsToRows start txns places
+leads-first start txns places none nowhere = rw (none, nowhere) (λ q. refl)
 
 -- ---- a row that is looked for
 
-pub place-within : (txns : List Txn) (q : RowName) (place : ℕ) → IsLeftAt txns q (Some place) → place < length txns
-place-within txns q place left = by (slice_get txns place) refl left
+pub place-within : (start : State) (txns : List Txn) (q : RowName) (place : ℕ) → IsLeftAt start txns q (Some place) → place < length txns
+place-within start txns q place left = by (slice_get txns place) refl left
   where
-    by : (found : Option Txn) → slice_get txns place ≡ found → Leaves q (get (after_txns txns (empty {R = row_name_cmp})) q) found → place < length txns
+    by : (found : Option Txn) → slice_get txns place ≡ found → Leaves q (get (after_txns txns start) q) found → place < length txns
     by None at h = absurd h
     by (Some t) at h = slice_get_within txns place t at
 
-pub row-there : (txns : List Txn) (q : RowName) (place : ℕ) (t : Txn) → IsLeftAt txns q (Some place) → slice_get txns place ≡ Some t → row_left (change_of q t.writes) ≡ get (after_txns txns (empty {R = row_name_cmp})) q
-row-there txns q place t left at = sym (subst (Leaves q (get (after_txns txns (empty {R = row_name_cmp})) q)) at left)
-
--- ---- what a reader was asked
-
--- what was asked of a reader that began with nothing is answered by its rows
-pub answered-so : (state : State) (first now : ReaderState) (reads : List Read) → first ≡ record { base = state; asked = []; refusals = 0 } → now.base ≡ first.base → now.asked ≡ first.asked ++ reads → AnsweredBy now.base now.asked → AnsweredBy state reads
-answered-so state first now reads is base asked answered =
-    let same_base : now.base ≡ state = base ∙ ap (λ (r : ReaderState). r.base) is in
-    let same_reads : now.asked ≡ reads = asked ∙ ap (λ (r : ReaderState). r.asked ++ reads) is in
-    subst (λ (s : State). AnsweredBy s reads) same_base (subst (AnsweredBy now.base) same_reads answered)
+pub row-there : (start : State) (txns : List Txn) (q : RowName) (place : ℕ) (t : Txn) → IsLeftAt start txns q (Some place) → slice_get txns place ≡ Some t → row_left (change_of q t.writes) ≡ get (after_txns txns start) q
+row-there start txns q place t left at = sym (subst (Leaves q (get (after_txns txns start) q)) at left)

@@ -1,5 +1,9 @@
 pub mod EvalCounts
 pub mod EvalFits
+pub mod EvalNames
 pub mod EvalOrder
+pub mod DistinctNames
 pub mod InOrderLaws
 pub mod LatestLaws
+pub mod LogLength
+pub mod SerialLaws

@@ -2,9 +2,10 @@
 #![tactic(auto)]
 
 mod latest;
-mod reader;
+mod law;
 mod serial;
 
+pub use law::serial_run_law;
 pub use serial::run_serial;
 
 #[cfg(test)]

@@ -7,8 +7,8 @@ use Rattle.c5_primary.proofs.latest.row_after.Goals as goal
 
 pub bounds-txns-place : goal.bounds-txns-place
 bounds-txns-place c =
-    let left = subst (IsLeftAt c.args.txns.now c.args.name.now) (sym c.in-Some.ensures.value) (c.requires c.args.name.now) in
-    place-within c.args.txns.now c.args.name.now c.in-Some.place.now left
+    let left = subst (IsLeftAt c.args.start.now c.args.txns.now c.args.name.now) (sym c.in-Some.ensures.value) (c.requires c.args.name.now) in
+    place-within c.args.start.now c.args.txns.now c.args.name.now c.in-Some.place.now left
 
 pub returns-in-Some : goal.returns-in-Some
 returns-in-Some c =
@@ -16,10 +16,10 @@ returns-in-Some c =
     let name = c.args.name.now in
     let place = c.in-Some.place.now in
     let txn = get_or txns place c.index-txns-place.result in
-    let left = subst (IsLeftAt txns name) (sym c.in-Some.ensures.value) (c.requires name) in
-    let at : slice_get txns place ≡ Some txn = slice_get-get_or txns place c.index-txns-place.result (place-within txns name place left) in
-    c.row_left.ensures ∙ ap row_left c.find.ensures ∙ row-there txns name place txn left at
+    let left = subst (IsLeftAt c.args.start.now txns name) (sym c.in-Some.ensures.value) (c.requires name) in
+    let at : slice_get txns place ≡ Some txn = slice_get-get_or txns place c.index-txns-place.result (place-within c.args.start.now txns name place left) in
+    c.row_left.ensures ∙ ap row_left c.find.ensures ∙ row-there c.args.start.now txns name place txn left at
 
 pub returns-in-None : goal.returns-in-None
 returns-in-None c =
-    sym (subst (IsLeftAt c.args.txns.now c.args.name.now) (sym c.in-None.ensures.value) (c.requires c.args.name.now))
+    c.get-in-None.ensures ∙ sym (subst (IsLeftAt c.args.start.now c.args.txns.now c.args.name.now) (sym c.in-None.ensures.value) (c.requires c.args.name.now))
