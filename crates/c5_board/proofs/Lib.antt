@@ -1,0 +1,15 @@
+pub mod Facts
+pub mod WordLemmas
+pub mod SetLemmas
+pub mod LawProofs
+pub mod SeatLemmas
+pub mod LoadSteps
+pub mod StoreSteps
+pub mod ExchangeStep
+pub mod PartSteps
+pub mod SoundParts
+pub mod CallLemmas
+pub mod PassLemmas
+pub mod NewBoard
+pub mod BucketLemmas
+pub mod FirstWrite

@@ -1,0 +1,143 @@
+-- Lists of numbers as sets, and one number for each worker.
+use Rattle.std.proofs.Common.{◌≡◌, ◌≢◌, ℕ, zero, suc, ◌+◌, ◌-◌, ◌<◌, ◌≤◌, ◌==◌, max, ◌⊎◌, inl, inr, ⊎_elim, Bool, true, false, ◌||◌, cond, true≢false, List, [], ◌∷◌, ◌++◌, length, get_or, set, refl, sym, ap, subst, ◌∙◌, arith, length-set, get_or-set_same, get_or-set_other}
+use Rattle.std.specs.List.{filter}
+use Rattle.std.proofs.lemmas.Bool.{eqb-true}
+use mathlib.Core.Logic.{dite}
+use native.Mathlib.Decide.{ℕ_discrete}
+use Rattle.std.proofs.Common.{eq-eqb}
+use Rattle.c5_board.specs.Sets.{has, numbers_from, number_of, with_number, greater_of_each}
+
+pub not_both : (b : Bool) → b ≡ true → b ≡ false → ⊥
+not_both b is isnt = true≢false (sym is ∙ isnt)
+
+pub not_true : (b : Bool) → (b ≡ true → ⊥) → b ≡ false
+not_true true isnt = absurd (isnt refl)
+not_true false isnt = refl
+
+pub either_bool : (b : Bool) → (b ≡ true) ⊎ (b ≡ false)
+either_bool true = inl refl
+either_bool false = inr refl
+
+pub or_left : (a b : Bool) → a ≡ true → (a || b) ≡ true
+or_left true b h = refl
+or_left false b h = absurd (true≢false (sym h))
+
+pub or_right : (a b : Bool) → b ≡ true → (a || b) ≡ true
+or_right true b h = refl
+or_right false b h = h
+
+pub or_part : (a b : Bool) → (a || b) ≡ true → (a ≡ true) ⊎ (b ≡ true)
+or_part true b h = inl refl
+or_part false b h = inr h
+
+-- ---- sets
+
+pub has-here : (n : ℕ) (xs : List ℕ) → has n (n ∷ xs) ≡ true
+has-here n xs = or_left (n == n) (has n xs) (eq-eqb n n refl)
+
+pub has-more : (n m : ℕ) (xs : List ℕ) → has n xs ≡ true → has n (m ∷ xs) ≡ true
+has-more n m xs h = or_right (n == m) (has n xs) h
+
+pub has-split : (n m : ℕ) (xs : List ℕ) → has n (m ∷ xs) ≡ true → (n ≡ m) ⊎ (has n xs ≡ true)
+has-split n m xs h = ⊎_elim (λ (e : (n == m) ≡ true). inl (eqb-true n m e)) (λ t. inr t) (or_part (n == m) (has n xs) h)
+
+pub has_front : (n : ℕ) (xs ys : List ℕ) → has n xs ≡ true → has n (xs ++ ys) ≡ true
+has_front n [] ys h = absurd (true≢false (sym h))
+has_front n (x ∷ xs) ys h = ⊎_elim (λ (e : (n == x) ≡ true). or_left (n == x) (has n (xs ++ ys)) e) (λ t. or_right (n == x) (has n (xs ++ ys)) (has_front n xs ys t)) (or_part (n == x) (has n xs) h)
+
+pub has_back : (n : ℕ) (xs ys : List ℕ) → has n ys ≡ true → has n (xs ++ ys) ≡ true
+has_back n [] ys h = h
+has_back n (x ∷ xs) ys h = or_right (n == x) (has n (xs ++ ys)) (has_back n xs ys h)
+
+pub has_part : (n : ℕ) (xs ys : List ℕ) → has n (xs ++ ys) ≡ true → (has n xs ≡ true) ⊎ (has n ys ≡ true)
+has_part n [] ys h = inr h
+has_part n (x ∷ xs) ys h = ⊎_elim (λ (e : (n == x) ≡ true). inl (or_left (n == x) (has n xs) e))
+    (λ (t : has n (xs ++ ys) ≡ true). ⊎_elim (λ l. inl (or_right (n == x) (has n xs) l)) (λ r. inr r) (has_part n xs ys t))
+    (or_part (n == x) (has n (xs ++ ys)) h)
+
+pub one_number : (m n : ℕ) → has m (n ∷ []) ≡ true → m ≡ n
+one_number m n h = ⊎_elim (λ (e : m ≡ n). e) (λ (t : false ≡ true). absurd (true≢false (sym t))) (has-split m n [] h)
+
+-- those that pass a test
+filter-step : (test : ℕ → Bool) (n x : ℕ) (xs : List ℕ) (b : Bool) → test x ≡ b → (has n (filter test xs) ≡ true → (has n xs ≡ true) × (test n ≡ true))
+    → has n (cond b (x ∷ filter test xs) (filter test xs)) ≡ true → (has n (x ∷ xs) ≡ true) × (test n ≡ true)
+filter-step test n x xs true e rest h = ⊎_elim
+    (λ (same : n ≡ x). (subst (λ (m : ℕ). has n (m ∷ xs) ≡ true) same (has-here n xs), ap test same ∙ e))
+    (λ (t : has n (filter test xs) ≡ true). let r = rest t in (has-more n x xs r.0, r.1))
+    (has-split n x (filter test xs) h)
+filter-step test n x xs false e rest h = let r = rest h in (has-more n x xs r.0, r.1)
+
+pub has-filter : (test : ℕ → Bool) (n : ℕ) (xs : List ℕ) → has n (filter test xs) ≡ true → (has n xs ≡ true) × (test n ≡ true)
+has-filter test n [] h = absurd (true≢false (sym h))
+has-filter test n (x ∷ xs) h = filter-step test n x xs (test x) refl (has-filter test n xs) h
+
+passes-step : (test : ℕ → Bool) (n x : ℕ) (xs : List ℕ) (b : Bool) → test x ≡ b → test n ≡ true → (has n xs ≡ true → has n (filter test xs) ≡ true)
+    → has n (x ∷ xs) ≡ true → has n (cond b (x ∷ filter test xs) (filter test xs)) ≡ true
+passes-step test n x xs true e passes rest h = ⊎_elim
+    (λ (same : n ≡ x). subst (λ (m : ℕ). has n (m ∷ filter test xs) ≡ true) same (has-here n (filter test xs)))
+    (λ (t : has n xs ≡ true). has-more n x (filter test xs) (rest t))
+    (has-split n x xs h)
+passes-step test n x xs false e passes rest h = ⊎_elim
+    (λ (same : n ≡ x). absurd (not_both (test x) (sym (ap test same) ∙ passes) e))
+    (λ (t : has n xs ≡ true). rest t)
+    (has-split n x xs h)
+
+pub filter-has : (test : ℕ → Bool) (n : ℕ) (xs : List ℕ) → has n xs ≡ true → test n ≡ true → has n (filter test xs) ≡ true
+filter-has test n [] h passes = absurd (true≢false (sym h))
+filter-has test n (x ∷ xs) h passes = passes-step test n x xs (test x) refl passes (λ t. filter-has test n xs t passes) h
+
+-- ---- ranges
+
+pub has_range : (n first count : ℕ) → has n (numbers_from first count) ≡ true → (first ≤ n) × (n < first + count)
+has_range n first zero h = absurd (true≢false (sym h))
+has_range n first (suc count) h = ⊎_elim (λ (is : n ≡ first). (omega arith, omega arith))
+    (λ (t : has n (numbers_from (suc first) count) ≡ true). let r = has_range n (suc first) count t in (omega arith, omega arith))
+    (has-split n first (numbers_from (suc first) count) h)
+
+pub range_has : (n first count : ℕ) → first ≤ n → n < first + count → has n (numbers_from first count) ≡ true
+range_has n first zero low high = absurd (omega arith)
+range_has n first (suc count) low high = dite (ℕ_discrete n first)
+    (λ e. or_left (n == first) (has n (numbers_from (suc first) count)) (eq-eqb n first e))
+    (λ ne. or_right (n == first) (has n (numbers_from (suc first) count)) (range_has n (suc first) count (omega arith) (omega arith)))
+
+pub length-range : (first count : ℕ) → length (numbers_from first count) ≡ count
+length-range first zero = refl
+length-range first (suc count) = ap suc (length-range (suc first) count)
+
+pub range-at : (first count i : ℕ) → i < count → get_or (numbers_from first count) i 0 ≡ first + i
+range-at first zero i within = absurd (omega arith)
+range-at first (suc count) zero within = omega arith
+range-at first (suc count) (suc i) within = range-at (suc first) count i (omega arith) ∙ omega arith
+
+-- ---- one number for each worker
+
+pub with_number-here : (numbers : List ℕ) (i x : ℕ) → 1 ≤ i → i ≤ length numbers → number_of (with_number numbers i x) i ≡ x
+with_number-here numbers i x some within = get_or-set_same numbers (i - 1) x 0 (omega arith)
+
+pub with_number-else : (numbers : List ℕ) (i k x : ℕ) → 1 ≤ i → 1 ≤ k → k ≢ i → number_of (with_number numbers i x) k ≡ number_of numbers k
+with_number-else numbers i k x some some_k ne = get_or-set_other numbers (i - 1) (k - 1) x 0 (λ e. ne (omega arith))
+
+pub with_number-length : (numbers : List ℕ) (i x : ℕ) → length (with_number numbers i x) ≡ length numbers
+with_number-length numbers i x = length-set numbers (i - 1) x
+
+-- a greater number makes none smaller
+pub with_number-grows : (numbers : List ℕ) (i x : ℕ) → 1 ≤ i → i ≤ length numbers → number_of numbers i ≤ x → (k : ℕ) → number_of numbers k ≤ number_of (with_number numbers i x) k
+with_number-grows numbers i x some within grows k = dite (ℕ_discrete (k - 1) (i - 1))
+    (λ e. let same : number_of (with_number numbers i x) k ≡ x = ap (λ (j : ℕ). get_or (set numbers (i - 1) x) j 0) e ∙ with_number-here numbers i x some within in
+    let old : number_of numbers k ≡ number_of numbers i = ap (λ (j : ℕ). get_or numbers j 0) e in omega arith)
+    (λ ne. let same : number_of (with_number numbers i x) k ≡ number_of numbers k = get_or-set_other numbers (i - 1) (k - 1) x 0 ne in omega arith)
+
+pub greater-length : (xs ys : List ℕ) → length xs ≡ length ys → length (greater_of_each xs ys) ≡ length xs
+greater-length [] ys e = refl
+greater-length (x ∷ xs) [] e = absurd (omega arith)
+greater-length (x ∷ xs) (y ∷ ys) e = ap suc (greater-length xs ys (omega arith))
+
+pub greater-at : (xs ys : List ℕ) (j : ℕ) → length xs ≡ length ys → get_or (greater_of_each xs ys) j 0 ≡ max (get_or xs j 0) (get_or ys j 0)
+greater-at [] [] j e = refl
+greater-at [] (y ∷ ys) j e = absurd (omega arith)
+greater-at (x ∷ xs) [] j e = absurd (omega arith)
+greater-at (x ∷ xs) (y ∷ ys) zero e = refl
+greater-at (x ∷ xs) (y ∷ ys) (suc j) e = greater-at xs ys j (omega arith)
+
+pub greater-of : (xs ys : List ℕ) (i : ℕ) → length xs ≡ length ys → number_of (greater_of_each xs ys) i ≡ max (number_of xs i) (number_of ys i)
+greater-of xs ys i e = greater-at xs ys (i - 1) e

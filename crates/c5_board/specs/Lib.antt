@@ -1,0 +1,13 @@
+pub mod Sets
+pub mod Words
+pub mod Boards
+pub mod Parts
+pub mod Passes
+pub mod Rule
+pub mod Views
+pub mod Tells
+pub mod Cuts
+pub mod First
+pub mod Law
+pub mod Held
+pub mod HeldPass

@@ -1,0 +1,5 @@
+pub mod Sizing
+pub mod Names
+pub mod Noting
+pub mod Listing
+pub mod Ends

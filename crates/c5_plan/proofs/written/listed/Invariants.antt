@@ -1,0 +1,6 @@
+use Rattle.std.proofs.Common.{◌≡◌, map, take}
+use Rattle.c5_plan.specs.Noted.{row_of}
+use Rattle.c5_plan.proofs.written.listed.Given as goal
+
+abbrev pub invariant-loop-last : goal.invariant-loop-last
+invariant-loop-last l = l.rows.items ≡ map row_of (take l.last-index l.noted.entries)

@@ -1,0 +1,5 @@
+pub mod Sizes
+pub mod Plans
+pub mod Written
+pub mod Noted
+pub mod Searching
