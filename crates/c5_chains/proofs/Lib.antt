@@ -1,0 +1,4 @@
+pub mod Behind
+pub mod Walking
+pub mod Naming
+pub mod OnPaths

@@ -1,0 +1,4 @@
+pub mod Tries
+pub mod Chains
+pub mod Finds
+pub mod Paths

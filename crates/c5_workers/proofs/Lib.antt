@@ -1,0 +1,5 @@
+pub mod LastRows
+pub mod NextRows
+pub mod Turned
+pub mod TryLemmas
+pub mod WorkLemmas

@@ -1,0 +1,154 @@
+-- What a turn of the scheduler leaves.
+use Rattle.std.proofs.Common.{◌≡◌, ◌≢◌, ◌∙◌, ◌+◌, ◌-◌, ◌≤◌, ◌<◌, ◌++◌, ◌⊎◌, inl, inr, ℕ, zero, suc, Bool, true, false, List, length, get_or, Option, Some, None, ap, sym, subst, refl, arith}
+use Rattle.std.proofs.lemmas.List.{length-replicate}
+use borrow.Author.Tests.{eqb-true, eqb-false, eq-eqb}
+use lib.Dec.{eqb}
+use Rattle.std.proofs.Math.Nat.{eq-or-lt_of_le}
+use Rattle.std.specs.Prelude.{if◌then◌else◌, replicate}
+use Rattle.c5_rows.specs.declared.writes.RowName.{RowName}
+use Rattle.c5_definitions.specs.WriteNumbers.{row_of, last_on_row, IsWrite, IsFirstWrite}
+use Rattle.c5_definitions.specs.NumberLaws.{RowsAreNumbered, PredecessorsAreLast}
+use Rattle.c5_board.specs.declared.known.Look.{Look}
+use Rattle.c5_board.specs.Boards.{Board, Pass, names, write_count}
+use Rattle.c5_workers.specs.declared.scheduler.Scheduler.{Scheduler}
+use Rattle.c5_workers.specs.Scheduling.{rows_with, first_write_count, IsLastOfEach, IsNext, IsReady, LooksUp, PlacesRow, indexed_with}
+use Rattle.c5_workers.specs.Schedules.{FitsSchedule, Schedules, OnlySchedules, IsFull, SchedulesAll}
+use Rattle.c5_workers.specs.declared.schedule_turn.ScheduleEnd.TheVariants as ends
+use Rattle.c5_workers.proofs.LastRows.{not_same, last-none}
+
+pub next-of : (s : Scheduler) (p : Pass) → FitsSchedule s p → p.scheduled ≤ write_count p.board → (s.scheduled ≡ write_count p.board → ⊥) → IsNext p (s.scheduled + 1)
+next-of s p fits most more =
+    let is = fits.scheduled in
+    let less = not_same s.scheduled (write_count p.board) more (omega arith) in
+    record { role = fits.role; written = fits.written; indexed = fits.indexed; next = omega arith; within = omega arith }
+
+-- the pass before the record is stored
+pub placed-pass : (p mid : Pass) (w rows row : ℕ) → PlacesRow p mid w rows row → (looks : List Look) × (mid ≡ record p { indexed = indexed_with (names p.board) w p.indexed; looks = looks })
+placed-pass p mid w rows row placed =
+    (_, placed.pass ∙ (λ i. record (placed.looks.path.pass i) { indexed = indexed_with (names p.board) w (placed.looks.path.pass i).indexed }))
+
+module _ (s : Scheduler) (p mid : Pass) (w row : ℕ) (fits : FitsSchedule s p) (next : IsNext p w) (placed : PlacesRow p mid w s.rows row) where
+  first-row : row ≡ w → IsFirstWrite (names p.board) w
+  first-row e = let is = next.next in record { write = record { positive = omega arith; within = next.within }; first = sym placed.is_row ∙ e }
+
+  pub ready-of : (last : List ℕ) → last ≡ s.last.items → IsReady mid last w row
+  ready-of last kept =
+      let is = placed-pass p mid w s.rows row placed in
+      let ready : IsReady (record p { indexed = indexed_with (names p.board) w p.indexed; looks = is.0 }) last w row =
+      record {
+        role = next.role;
+        written = next.written;
+        next = next.next;
+        within = next.within;
+        is_row = placed.is_row;
+        indexed = λ first. (λ i. if eq-eqb (row_of (names p.board) w) w first.first i then w else p.indexed);
+        kept = subst (λ (l : List ℕ). IsLastOfEach (names p.board) l p.scheduled) (sym kept) fits.last;
+      } in
+      subst (λ (q : Pass). IsReady q last w row) (sym is.1) ready
+
+  pub scheduled-next : (new : Pass) → new ≡ record mid { written = w; scheduled = w } → Schedules p new w
+  scheduled-next new is = record {
+    next = next.next;
+    within = next.within;
+    few = λ first. let full = placed.few first in let count = fits.rows in let most = fits.few in
+        subst (λ (n : ℕ). n < 65536) count (not_same s.rows 65536 full most);
+    found = placed.found;
+    looks = placed.looks;
+    pass = is ∙ (λ i. record (placed.pass i) { written = w; scheduled = w });
+  }
+
+  rows-few : (t : Bool) → eqb row w ≡ t → (if t then s.rows + 1 else s.rows) ≤ 65536
+  rows-few true e =
+      let less = not_same s.rows 65536 (placed.few (first-row (eqb-true row w e))) fits.few in
+      omega arith
+  rows-few false e = fits.few
+
+  indexed-within : (t : Bool) → (if t then w else p.indexed) ≤ w
+  indexed-within true = omega arith
+  indexed-within false = let low = next.indexed in let is = next.next in omega arith
+
+  count-next : rows_with s.rows w row ≡ first_write_count (names p.board) w
+  count-next =
+      let is : w ≡ suc p.scheduled = next.next ∙ (let e : p.scheduled + 1 ≡ suc p.scheduled = omega arith in e) in
+      (λ i. rows_with (fits.rows i) w (placed.is_row i))
+      ∙ (λ i. rows_with (first_write_count (names p.board) p.scheduled) (is i) (row_of (names p.board) (is i)))
+      ∙ ap (first_write_count (names p.board)) (sym is)
+
+  pub fits-next : (after : Scheduler) (new : Pass) (rows : ℕ) → new ≡ record mid { written = w; scheduled = w } → after.scheduled ≡ w → after.rows ≡ rows → rows ≡ rows_with s.rows w row → IsLastOfEach (names p.board) after.last.items w → FitsSchedule after new
+  fits-next after new rows is scheduled same counted last =
+      let mid_is = placed-pass p mid w s.rows row placed in
+      let all : new ≡ record p { indexed = indexed_with (names p.board) w p.indexed; looks = mid_is.0; written = w; scheduled = w } = is ∙ (λ i. record (mid_is.1 i) { written = w; scheduled = w }) in
+      let fit : FitsSchedule after (record p { indexed = indexed_with (names p.board) w p.indexed; looks = mid_is.0; written = w; scheduled = w }) =
+      record {
+        role = next.role;
+        scheduled = scheduled;
+        last = last;
+        rows = same ∙ counted ∙ count-next;
+        few = subst (λ (n : ℕ). n ≤ 65536) (sym (same ∙ counted)) (rows-few (eqb row w) refl);
+        written = refl;
+        indexed = indexed-within (eqb (row_of (names p.board) w) w);
+      } in
+      subst (FitsSchedule after) (sym all) fit
+
+-- a new scheduler
+zeros : (n i z : ℕ) → get_or (replicate n z) i z ≡ z
+zeros zero i z = refl
+zeros (suc n) zero z = refl
+zeros (suc n) (suc i) z = zeros n i z
+
+pub fits-new : (s : Scheduler) (p : Pass) → RowsAreNumbered (names p.board) → PredecessorsAreLast (names p.board) → s.last.items ≡ replicate (write_count p.board) 0 → s.scheduled ≡ 0 → s.rows ≡ 0
+    → p.scheduler ≡ true → p.scheduled ≡ 0 → p.written ≡ 0 → p.indexed ≡ 0 → FitsSchedule s p
+fits-new s p numbered laws items scheduled rows role none written indexed = record {
+  role = role;
+  scheduled = scheduled ∙ sym none;
+  last = record {
+    count = ap length items ∙ length-replicate (write_count p.board) 0;
+    each = λ row first. ap (λ (l : List ℕ). get_or l (row - 1) 0) items ∙ zeros (write_count p.board) (row - 1) 0 ∙ last-none (names p.board) numbered laws row first ∙ ap (last_on_row (names p.board) row) (sym none);
+  };
+  rows = rows ∙ ap (first_write_count (names p.board)) (sym none);
+  few = omega arith;
+  written = written ∙ sym none;
+  indexed = omega arith;
+}
+
+-- ---- a whole log
+
+rows-more : (t : Bool) (rows : ℕ) → rows ≤ (if t then rows + 1 else rows)
+rows-more true rows = omega arith
+rows-more false rows = omega arith
+
+count-rises : (ns : List RowName) (m n : ℕ) → m ≤ n → first_write_count ns m ≤ first_write_count ns n
+count-rises ns m zero h = let e : m ≡ 0 = omega arith in subst (λ (k : ℕ). first_write_count ns k ≤ first_write_count ns 0) (sym e) (omega arith)
+count-rises ns m (suc n) h = by (eq-or-lt_of_le h) (λ less. count-rises ns m n (omega arith))
+  where
+    by : (m ≡ suc n) ⊎ (m < suc n) → (m < suc n → first_write_count ns m ≤ first_write_count ns n) → first_write_count ns m ≤ first_write_count ns (suc n)
+    by (inl e) rest = subst (λ (k : ℕ). first_write_count ns k ≤ first_write_count ns (suc n)) (sym e) (omega arith)
+    by (inr less) rest =
+        let low = rest less in
+        let more = rows-more (eqb (row_of ns (suc n)) (suc n)) (first_write_count ns n) in
+        omega (arith, low, more)
+
+count-first : (ns : List RowName) (n : ℕ) → row_of ns (suc n) ≡ suc n → first_write_count ns (suc n) ≡ first_write_count ns n + 1
+count-first ns n first = λ i. if eq-eqb (row_of ns (suc n)) (suc n) first i then first_write_count ns n + 1 else first_write_count ns n
+
+too_many-rows : (p : Pass) → IsFull p → 65536 < first_write_count (names p.board) (write_count p.board)
+too_many-rows p full =
+    let within = full.first.write.within in
+    let is : p.scheduled + 1 ≡ suc p.scheduled = omega arith in
+    let count = count-first (names p.board) p.scheduled (subst (λ (k : ℕ). row_of (names p.board) k ≡ k) is full.first.first) in
+    let all = count-rises (names p.board) (suc p.scheduled) (write_count p.board) (omega arith) in
+    let most = full.full in
+    omega arith
+
+pub ends-full : (old mid new : Pass) → OnlySchedules old mid → IsFull mid → LooksUp mid new (mid.scheduled + 1) → SchedulesAll old new ends.Rows
+ends-full old mid new only full looks =
+    let is = looks.path.pass in
+    let kept : IsFull (record mid { looks = new.looks }) = record { first = full.first; full = full.full } in
+    let same : new ≡ record mid { looks = new.looks } = is ∙ (λ i. record mid { looks = ap (λ (p : Pass). p.looks) (sym is) i }) in
+    let full_new : IsFull new = subst IsFull (sym same) kept in
+    record {
+      only =
+          same ∙ (λ i. record (only i) { looks = new.looks })
+          ∙ (λ i. record old { written = ap (λ (p : Pass). p.written) (sym same) i; indexed = ap (λ (p : Pass). p.indexed) (sym same) i; scheduled = ap (λ (p : Pass). p.scheduled) (sym same) i; looks = new.looks });
+      is_end = (full_new, too_many-rows new full_new);
+    }

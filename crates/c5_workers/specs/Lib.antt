@@ -1,0 +1,4 @@
+pub mod Scheduling
+pub mod Schedules
+pub mod Tries
+pub mod Work

@@ -1,0 +1,21 @@
+//! What turns of the scheduler come to.
+
+/// What a turn of the scheduler did.
+#[derive(Clone, Copy, Debug, PartialEq, Eq)]
+pub enum ScheduleTurn {
+    /// Write `w` is scheduled.
+    Did { w: u32 },
+    /// Nothing, as the next write would be of one row too many.
+    Rows,
+    /// Nothing, as each write of the log is scheduled.
+    Done,
+}
+
+/// How scheduling a whole log ends.
+#[derive(Clone, Copy, Debug, PartialEq, Eq)]
+pub enum ScheduleEnd {
+    /// Each write of the log is scheduled.
+    Done,
+    /// The log writes too many rows.
+    Rows,
+}
