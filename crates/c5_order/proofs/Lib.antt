@@ -1,0 +1,17 @@
+pub mod Versions
+pub mod Histories
+pub mod Steps
+pub mod Allowed
+pub mod Rows
+pub mod Serial
+pub mod MarkLemmas
+pub mod BookLemmas
+pub mod StateLemmas
+pub mod Readers
+pub mod Answering
+pub mod Parts
+pub mod SeenRows
+pub mod Conflicts
+pub mod CopyLemmas
+pub mod LogLemmas
+pub mod NewBook
