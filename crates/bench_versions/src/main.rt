@@ -1,4 +1,5 @@
-//! Makes a row of 65,536 versions, finds one for each of 65,536 stamps, and prints the sum of their `wrote`.
+//! Makes a row of 65,536 versions, finds one for each of 65,536 stamps, and prints the sum of their
+//! `wrote`.
 #![tactic(auto)]
 
 use c5_rows::{Change, NoMemory};

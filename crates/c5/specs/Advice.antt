@@ -7,6 +7,7 @@ use Rattle.c5_driver.specs.declared.status.Status.TheVariants as statuses
 abbrev pub advice_of : Status → List ℕ
 advice_of statuses.BadWords = codes "c5: usage: c5 apply | primary, with input on standard input"
 advice_of statuses.ReadFault = codes "c5: reading standard input failed; nothing was written"
-advice_of statuses.WriteFault = codes "c5: writing standard output failed; what was written is not whole"
+advice_of statuses.WriteFault =
+    codes "c5: writing standard output failed; what was written is not whole"
 advice_of statuses.NoMemory = codes "c5: out of memory; nothing was written"
 advice_of status = []

@@ -14,11 +14,11 @@ use Rattle.c5_rows.specs.declared.writes.RowName.{RowName}
 use Rattle.c5_board.specs.declared.known.Known.{Known}
 use Rattle.c5_board.specs.declared.known.Look.{Look}
 use Rattle.c5_board.specs.declared.known.Look.TheVariants.{ExchangeHead}
-use Rattle.c5_board.specs.Sets.{has}
+use Rattle.c5_rows.specs.Numbers.{is_among}
 use Rattle.c5_board.specs.Words.{head_word}
 use Rattle.c5_board.specs.Boards.{pass_of}
 use Rattle.c5_board.specs.Passes.{IsLookOf, IsHeadOf, CoversRow}
-use Rattle.c5_board.specs.Rule.{Words, words_of, IsInstalled, IsFoundInstalled, WordsFit}
+use Rattle.c5_board.specs.Rule.{BoardWords, board_words, IsInstalled, IsFoundInstalled, WordsFit}
 use Rattle.c5_board.specs.Views.{with_installed, with_look}
 use Rattle.c5_board.specs.Tells.{Seated, Becomes, exchanges_head}
 use Rattle.c5_board.proofs.Facts.{Facts}
@@ -41,7 +41,7 @@ module _ (me : Seated) (k : Facts me.0.log me.0.workers) where
   names = names_in log.txns
 
   module _ (w : ℕ) (is : IsWrite (names_in log.txns) w) (s : St log workers k) (r : Rule log workers k s) where
-    abbrev x : Words
+    abbrev x : BoardWords
     x = words_in log workers k s
 
     abbrev row : ℕ
@@ -67,19 +67,19 @@ module _ (me : Seated) (k : Facts me.0.log me.0.workers) where
     head_scheduled = dite (ℕ_discrete n 0) (λ z. omega arith) (λ ne. r.words.scheduled n (head_installed ne))
 
     -- where w isn't installed, the head hasn't reached it, so it is at most the predecessor
-    head_small : (id : ℕ) → get_elem? s.views id ≡ some v → has (owner_of workers w) v.roles ≡ true → has w v.installed ≡ false → n ≤ predecessor_of (names_in log.txns) w
+    head_small : (id : ℕ) → get_elem? s.views id ≡ some v → is_among (owner_of workers w) v.roles ≡ true → is_among w v.installed ≡ false → n ≤ predecessor_of (names_in log.txns) w
     head_small id at role fresh = dite (ℕ_discrete n 0) (λ z. omega arith)
         (λ ne. let h = head_is ne in elim (dec_le w n) [
-          | yes le ↦ absurd (not_both (has w v.installed) ((r.each id v at).all_installed w (record { write = is; reached = le }) role) fresh)
+          | yes le ↦ absurd (not_both (is_among w v.installed) ((r.each id v at).all_installed w (record { write = is; reached = le }) role) fresh)
           | no gt ↦ k.predecessors.greatest n w h.0 is h.1 (lt_of_not-le gt)
         ])
 
     -- ---- the head is the predecessor: w is installed
 
-    module _ (id : ℕ) (at : get_elem? s.views id ≡ some v) (role : has (owner_of workers w) v.roles ≡ true) (within : w ≤ v.scheduled)
+    module _ (id : ℕ) (at : get_elem? s.views id ≡ some v) (role : is_among (owner_of workers w) v.roles ≡ true) (within : w ≤ v.scheduled)
         (hit : n ≡ predecessor_of (names_in log.txns) w) where
-      abbrev y : Words
-      y = words_of log workers (set s.words (head_word (row_of (names_in log.txns) w)) w)
+      abbrev y : BoardWords
+      y = board_words log workers (set s.words (head_word (row_of (names_in log.txns) w)) w)
 
       set_head : HeadSet log workers x y (row_of (names_in log.txns) w) w
       set_head = head_set log workers s.words w r.count (row_of (names_in log.txns) w) row_is.write
@@ -138,11 +138,11 @@ module _ (me : Seated) (k : Facts me.0.log me.0.workers) where
         same_workers = refl;
         roles = f.roles;
         installed = λ q has_q. ⊎_elim
-            (λ (e : q ≡ w). subst (λ (q : ℕ). IsInstalled log workers y q × (has (owner_of workers q) v.roles ≡ true)) (sym e) (now_installed, role))
-            (λ (t : has q v.installed ≡ true). let h = f.installed q t in (inst_grown log workers k x y q heads_grow h.0, h.1))
+            (λ (e : q ≡ w). subst (λ (q : ℕ). IsInstalled log workers y q × (is_among (owner_of workers q) v.roles ≡ true)) (sym e) (now_installed, role))
+            (λ (t : is_among q v.installed ≡ true). let h = f.installed q t in (inst_grown log workers k x y q heads_grow h.0, h.1))
             (has-split q w v.installed has_q);
         all_installed = λ q is_q own_q. ⊎_elim
-            (λ (e : q ≡ w). subst (λ (q : ℕ). has q (w ∷ v.installed) ≡ true) (sym e) (has-here w v.installed))
+            (λ (e : q ≡ w). subst (λ (q : ℕ). is_among q (w ∷ v.installed) ≡ true) (sym e) (has-here w v.installed))
             (λ (old : IsInstalled log workers x q). has-more q w v.installed (f.all_installed q old own_q))
             (installs q is_q);
         count = f.count;
@@ -176,11 +176,11 @@ module _ (me : Seated) (k : Facts me.0.log me.0.workers) where
           })
           (r.each j u at_j))
 
-  pub exchanges_head_step : (slots id w : ℕ) → IsWrite (names_in log.txns) w → has (owner_of workers w) v.roles ≡ true → w ≤ v.scheduled → has w v.installed ≡ false
+  pub exchanges_head_step : (slots id w : ℕ) → IsWrite (names_in log.txns) w → is_among (owner_of workers w) v.roles ≡ true → w ≤ v.scheduled → is_among w v.installed ≡ false
       → Allows (Rule log workers k) slots id me (head_word (row_of (names_in log.txns) w)) (λ n. either (n == predecessor_of (names_in log.txns) w) w n)
       (exchanges_head (step slots (head_word (row_of (names_in log.txns) w)) (predecessor_of (names_in log.txns) w) w none) me)
   exchanges_head_step slots id w is role within fresh s r _ at _ =
-      let x : Words = words_in log workers k s in
+      let x : BoardWords = words_in log workers k s in
       let f = r.each id v at in
       let i : ℕ = head_word (row_of (names_in log.txns) w) in
       let n : ℕ = get_or s.words (head_word (row_of (names_in log.txns) w)) 0 in
@@ -197,7 +197,7 @@ module _ (me : Seated) (k : Facts me.0.log me.0.workers) where
         subst (λ (b : Bool). Rule log workers k (stepped s i (either b w n) id me.1 u keeps)) (sym (eq-eqb n before hit)) rule,
         (λ q is_q word first second. subst (λ (q : ℕ). (n ≡ before → Becomes me (u, me.1) (with_installed v q (ExchangeHead q n))) × (n ≢ before → Becomes me (u, me.1) (with_look v (ExchangeHead q n)) × (n < before))
             × IsHeadOf (names_in log.txns) (row_of (names_in log.txns) q) n × ((table : TableId) → CoversRow (pass_of table v) (row_of (names_in log.txns) q) n)) second (
-              (λ _. (refl, (λ table. sound log workers k table r.holders (words_of log workers (set s.words i w)) id u (fit w is s r id at role within hit) (mine w is s r id at role within hit)))),
+              (λ _. (refl, (λ table. sound log workers k table r.holders (board_words log workers (set s.words i w)) id u (fit w is s r id at role within hit) (mine w is s r id at role within hit)))),
               (λ miss. absurd (miss hit)),
               head_is w is s r,
               covered,

@@ -11,7 +11,7 @@ use Rattle.c5_definitions.proofs.NumberLemmas.{rows_are_numbered, predecessors_a
 use Rattle.c5_definitions.proofs.IndexLemmas.{rows_are_indexed, path-zero}
 use Rattle.c5_frames.specs.Index.{writes_of}
 use Rattle.c5_frames.specs.Log.{Log}
-use Rattle.c5_board.specs.Sets.{has}
+use Rattle.c5_rows.specs.Numbers.{is_among}
 use Rattle.c5_board.specs.Boards.{Pass}
 use Rattle.c5_board.specs.Passes.{IsOutstanding}
 use Rattle.c5_board.specs.Boards.{record_of}
@@ -37,8 +37,8 @@ pub outstanding_two : (p : Pass) → p.board.workers ≡ 1 → p.installed ≡ 1
 outstanding_two p one installed = let own = numbers_are_owned 1 (omega arith) in record {
   positive = omega arith;
   owned = (let a = own.some 2 in let b = own.worker 2 in let e : owner_of 1 2 ≡ 1 = omega arith in ap (λ (n : ℕ). owner_of n 2) one ∙ e);
-  not_installed = ap (has 2) installed;
-  least = λ w positive below owned. let e : w ≡ 1 = omega arith in subst (λ (v : ℕ). has v p.installed ≡ true) (sym e) (ap (has 1) installed);
+  not_installed = ap (is_among 2) installed;
+  least = λ w positive below owned. let e : w ≡ 1 = omega arith in subst (λ (v : ℕ). is_among v p.installed ≡ true) (sym e) (ap (is_among 1) installed);
 }
 
 module _ (names : List RowName) (some_write : 1 ≤ length names) where

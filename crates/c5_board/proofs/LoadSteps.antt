@@ -15,11 +15,12 @@ use Rattle.c5_frames.specs.Log.{Log}
 use Rattle.c5_board.specs.declared.known.Known.{Known}
 use Rattle.c5_board.specs.declared.known.Look.{Look}
 use Rattle.c5_board.specs.declared.known.Look.TheVariants.{LoadHead, LoadProgress, LoadVisible, LoadRecord, LoadScheduled, LoadBucket}
-use Rattle.c5_board.specs.Sets.{has, number_of, with_number}
+use Rattle.c5_board.specs.Sets.{number_of, with_number}
+use Rattle.c5_rows.specs.Numbers.{is_among}
 use Rattle.c5_board.specs.Words.{buckets_in, head_word, record_word, progress_word, scheduled_word, visible_word, bucket_word, packed}
 use Rattle.c5_board.specs.Boards.{IsWorker, record_of, pass_of}
 use Rattle.c5_board.specs.Passes.{IsLookOf, IsHeadOf, CoversRow, bucket_up_to}
-use Rattle.c5_board.specs.Rule.{Words, IsInstalled, IsFoundInstalled}
+use Rattle.c5_board.specs.Rule.{BoardWords, IsInstalled, IsFoundInstalled}
 use Rattle.c5_board.specs.Views.{looked, with_look, with_floor, with_place}
 use Rattle.c5_board.specs.declared.known.Record.{Record}
 use Rattle.c5_board.specs.Tells.{Seated, Becomes, loads_head, loads_progress, loads_visible, loads_record, loads_scheduled, loads_bucket}
@@ -42,7 +43,7 @@ module _ (me : Seated) (k : Facts me.0.log me.0.workers) where
   pub loaded : (s : St log workers k) (i id : ℕ) (w : Known) → Rule log workers k (record { words = s.words; homes = s.homes; views = set s.views id w }) → Rule log workers k (stepped s i (get_or s.words i 0) id me.1 w keeps)
   loaded s i id w r = subst (λ (ws : List ℕ). Rule log workers k (record { words = ws; homes = s.homes; views = set s.views id w })) (sym (set-get_or s.words i 0)) r
 
-  x_of : St log workers k → Words
+  x_of : St log workers k → BoardWords
   x_of s = words_in log workers k s
 
   abbrev Mine : (s : St log workers k) → Rule log workers k s → ℕ → Known → Type 0
@@ -170,7 +171,7 @@ module _ (me : Seated) (k : Facts me.0.log me.0.workers) where
 
   pub loads_scheduled_step : (slots id : ℕ) → Allows (Rule log workers k) slots id me (scheduled_word log workers) (λ n. n) (loads_scheduled (step slots (scheduled_word log workers) 0 0 none) me)
   loads_scheduled_step slots id s r _ at _ =
-      let x : Words = words_in log workers k s in
+      let x : BoardWords = words_in log workers k s in
       let f = r.each id v at in
       let n : ℕ = get_or s.words (scheduled_word log workers) 0 in
       let least = f.scheduled in
@@ -191,7 +192,7 @@ module _ (me : Seated) (k : Facts me.0.log me.0.workers) where
 
   pub loads_visible_step : (slots id : ℕ) → Allows (Rule log workers k) slots id me (visible_word log workers) (λ n. n) (loads_visible (step slots (visible_word log workers) 0 0 none) me)
   loads_visible_step slots id s r _ at _ =
-      let x : Words = words_in log workers k s in
+      let x : BoardWords = words_in log workers k s in
       let f = r.each id v at in
       let n : ℕ = get_or s.words (visible_word log workers) 0 in
       let w : Known = with_look (with_place v n) (LoadVisible n) in
@@ -210,7 +211,7 @@ module _ (me : Seated) (k : Facts me.0.log me.0.workers) where
 
   pub loads_progress_step : (slots id i : ℕ) → IsWorker workers i → Allows (Rule log workers k) slots id me (progress_word log i) (λ n. n) (loads_progress (step slots (progress_word log i) 0 0 none) me)
   loads_progress_step slots id i is s r _ at _ =
-      let x : Words = words_in log workers k s in
+      let x : BoardWords = words_in log workers k s in
       let f = r.each id v at in
       let n : ℕ = get_or s.words (progress_word log i) 0 in
       let w : Known = with_look (with_floor v i n) (LoadProgress i n) in
@@ -222,7 +223,7 @@ module _ (me : Seated) (k : Facts me.0.log me.0.workers) where
         tt,
         loaded s (progress_word log i) id w (learned log workers k s r id v w at (record { worker_roles = refl; snapshot_role = refl; scheduler_role = refl }) mine),
         (λ j is_j e. let same : i ≡ j = omega (arith, is.0, is_j.0) in
-            subst (λ (j : ℕ). Becomes me (w, me.1) (with_look (with_floor v j n) (LoadProgress j n)) × (number_of v.floors j ≤ n) × (1 ≤ n) × (has j v.roles ≡ true → n ≡ number_of v.floors j) × (v.snapshot ≡ true → end_of log.txns v.place < n)) same (
+            subst (λ (j : ℕ). Becomes me (w, me.1) (with_look (with_floor v j n) (LoadProgress j n)) × (number_of v.floors j ≤ n) × (1 ≤ n) × (is_among j v.roles ≡ true → n ≡ number_of v.floors j) × (v.snapshot ≡ true → end_of log.txns v.place < n)) same (
               (refl, (λ table. sound log workers k table r.holders x id w r.words mine)),
               (f.floors i is).reached,
               (r.words.progress i is).positive,
@@ -233,7 +234,7 @@ module _ (me : Seated) (k : Facts me.0.log me.0.workers) where
 
   pub loads_head_step : (slots id row : ℕ) → IsFirstWrite (names_in log.txns) row → Allows (Rule log workers k) slots id me (head_word row) (λ n. n) (loads_head (step slots (head_word row) 0 0 none) me)
   loads_head_step slots id row is s r _ at _ =
-      let x : Words = words_in log workers k s in
+      let x : BoardWords = words_in log workers k s in
       let f = r.each id v at in
       let n : ℕ = get_or s.words (head_word row) 0 in
       let w : Known = looked v n (LoadHead row n) in
@@ -255,7 +256,7 @@ module _ (me : Seated) (k : Facts me.0.log me.0.workers) where
 
   pub loads_record_step : (slots id w : ℕ) → IsWrite (names_in log.txns) w → w ≤ v.scheduled → Allows (Rule log workers k) slots id me (record_word log w) (λ n. n) (loads_record (step slots (record_word log w) 0 0 none) me)
   loads_record_step slots id w is scheduled s r _ at _ =
-      let x : Words = words_in log workers k s in
+      let x : BoardWords = words_in log workers k s in
       let f = r.each id v at in
       let n : ℕ = get_or s.words (record_word log w) 0 in
       let link : Record = record_of (names_in log.txns) w in
@@ -286,7 +287,7 @@ module _ (me : Seated) (k : Facts me.0.log me.0.workers) where
 
   pub loads_bucket_step : (slots id j : ℕ) → j < buckets_in log → Allows (Rule log workers k) slots id me (bucket_word log workers j) (λ n. n) (loads_bucket (step slots (bucket_word log workers j) 0 0 none) me)
   loads_bucket_step slots id j below s r _ at _ =
-      let x : Words = words_in log workers k s in
+      let x : BoardWords = words_in log workers k s in
       let f = r.each id v at in
       let n : ℕ = get_or s.words (bucket_word log workers j) 0 in
       let w : Known = with_look v (LoadBucket j n) in

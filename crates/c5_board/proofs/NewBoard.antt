@@ -12,12 +12,13 @@ use Rattle.c5_definitions.specs.WriteNumbers.{names_in, row_of, owner_of, IsWrit
 use Rattle.c5_definitions.specs.RowIndex.{first_in_bucket}
 use Rattle.c5_frames.specs.Log.{Log}
 use Rattle.c5_board.specs.declared.known.Known.{Known}
-use Rattle.c5_board.specs.Sets.{numbers_from, number_of}
+use Rattle.c5_board.specs.Sets.{number_of}
+use Rattle.c5_rows.specs.Numbers.{numbers_from}
 use Rattle.c5_board.specs.Words.{writes_in, buckets_in, head_word, record_word, scheduled_word, visible_word, bucket_word}
 use Rattle.c5_board.specs.Boards.{IsWorker}
 use Rattle.c5_board.specs.First.{first_words}
 use Rattle.c5_board.specs.Passes.{IsLookOf, bucket_up_to}
-use Rattle.c5_board.specs.Rule.{Words, words_of, Holders, IsInstalled, IsFoundInstalled, WordsFit, SeatFits, IsKept}
+use Rattle.c5_board.specs.Rule.{BoardWords, board_words, Holders, IsInstalled, IsFoundInstalled, WordsFit, SeatFits, IsKept}
 use Rattle.c5_board.specs.Views.{first_view}
 use Rattle.c5_board.proofs.Facts.{Facts}
 use Rattle.c5_board.proofs.SetLemmas.{has_range, range_has, length-range, range-at}
@@ -67,8 +68,8 @@ module _ (writes workers buckets : ℕ) where
   high i above = get_or-append_right front (replicate (2 + buckets) 0) (writes + writes + workers) i 0 length-front above ∙ blank (2 + buckets) (i - (writes + writes + workers))
 
 module _ (log : Log) (workers : ℕ) (k : Facts log workers) where
-  abbrev x : Words
-  x = words_of log workers (first_words (writes_in log) workers (buckets_in log))
+  abbrev x : BoardWords
+  x = board_words log workers (first_words (writes_in log) workers (buckets_in log))
 
   head-none : (w : ℕ) → IsWrite (names_in log.txns) w → x.head w ≡ 0
   head-none w is = let positive = is.positive in let within = is.within in low (writes_in log) workers (buckets_in log) (head_word w) (omega arith)

@@ -13,14 +13,15 @@ use Rattle.c5_definitions.specs.WriteNumbers.{names_in, end_of, owner_of}
 use Rattle.c5_frames.specs.Log.{Log}
 use Rattle.c5_board.specs.declared.known.Known.{Known}
 use Rattle.c5_board.specs.declared.known.Look.{Look}
-use Rattle.c5_board.specs.Sets.{has, without, number_of, greater_of_each, numbers_from}
+use Rattle.c5_board.specs.Sets.{without, number_of, greater_of_each}
+use Rattle.c5_rows.specs.Numbers.{is_among, numbers_from}
 use Rattle.c5_board.specs.Boards.{IsWorker}
 use Rattle.c5_board.specs.Parts.{owned_by, owned_by_others}
 use Rattle.c5_board.specs.Passes.{IsLookOf}
-use Rattle.c5_board.specs.Rule.{Words, Holders, IsFoundInstalled}
+use Rattle.c5_board.specs.Rule.{BoardWords, Holders, IsFoundInstalled}
 use Rattle.c5_board.specs.Views.{Taken, part_view, rest_view, joined_view, spent_view}
 use Rattle.c5_board.proofs.Facts.{Facts}
-use Rattle.c5_board.proofs.SetLemmas.{not_both, or_left, or_right, has-here, has_front, has_back, has_part, one_number, has-filter, filter-has, greater-length, greater-of, length-range, range-at}
+use Rattle.c5_board.proofs.SetLemmas.{not_both, or_left, or_right, has-here, has_front, has_back, has_part, one_number, has-filter, filter-is_among, greater-length, greater-of, length-range, range-at}
 use Rattle.c5_board.proofs.SeatLemmas.{there, one_view, look_more, St, Rule, Seat, words_in}
 
 -- what stands in a longer list stood in the list, or is the new element at its end
@@ -64,51 +65,51 @@ module _ (t : ℕ) where
   abbrev part_roles : List ℕ
   part_roles = cond (t == 0) [] (t ∷ [])
 
-  pub part-has : (i : ℕ) → has i (cond (t == 0) [] (t ∷ [])) ≡ true → (i ≡ t) × (t ≢ 0)
-  part-has i = at (t == 0) refl
+  pub part-is_among : (i : ℕ) → is_among i (cond (t == 0) [] (t ∷ [])) ≡ true → (i ≡ t) × (t ≢ 0)
+  part-is_among i = at (t == 0) refl
     where
-      at : (b : Bool) → (t == 0) ≡ b → has i (cond b [] (t ∷ [])) ≡ true → (i ≡ t) × (t ≢ 0)
+      at : (b : Bool) → (t == 0) ≡ b → is_among i (cond b [] (t ∷ [])) ≡ true → (i ≡ t) × (t ≢ 0)
       at true e h = absurd (true≢false (sym h))
       at false e h = (one_number i t h, (λ z. not_both (t == 0) (eq-eqb t 0 z) e))
 
-  pub has-part : t ≢ 0 → has t (cond (t == 0) [] (t ∷ [])) ≡ true
+  pub has-part : t ≢ 0 → is_among t (cond (t == 0) [] (t ∷ [])) ≡ true
   has-part ne = rw (ne_eqb t 0 ne) (has-here t [])
 
-  pub rest-has : (i : ℕ) (roles : List ℕ) → has i (cond (t == 0) roles (without t roles)) ≡ true → (has i roles ≡ true) × (t ≢ 0 → i ≢ t)
-  rest-has i roles = at (t == 0) refl
+  pub rest-is_among : (i : ℕ) (roles : List ℕ) → is_among i (cond (t == 0) roles (without t roles)) ≡ true → (is_among i roles ≡ true) × (t ≢ 0 → i ≢ t)
+  rest-is_among i roles = at (t == 0) refl
     where
-      at : (b : Bool) → (t == 0) ≡ b → has i (cond b roles (without t roles)) ≡ true → (has i roles ≡ true) × (t ≢ 0 → i ≢ t)
+      at : (b : Bool) → (t == 0) ≡ b → is_among i (cond b roles (without t roles)) ≡ true → (is_among i roles ≡ true) × (t ≢ 0 → i ≢ t)
       at true e h = (h, (λ ne. absurd (ne (eqb-true t 0 e))))
       at false e h = let p = has-filter (λ m. not (t == m)) i roles h in (p.0, (λ _ same. not_both (t == i) (eq-eqb t i (sym same)) (not_not (t == i) p.1)))
 
-  pub has-rest : (i : ℕ) (roles : List ℕ) → has i roles ≡ true → (t ≢ 0 → i ≢ t) → has i (cond (t == 0) roles (without t roles)) ≡ true
+  pub has-rest : (i : ℕ) (roles : List ℕ) → is_among i roles ≡ true → (t ≢ 0 → i ≢ t) → is_among i (cond (t == 0) roles (without t roles)) ≡ true
   has-rest i roles h other = dite (ℕ_discrete t 0)
       (λ e. rw (eq-eqb t 0 e) h)
-      (λ ne. rw (ne_eqb t 0 ne) (filter-has (λ m. not (t == m)) i roles h (ap not (ne_eqb t i (λ same. other ne (sym same))))))
+      (λ ne. rw (ne_eqb t 0 ne) (filter-is_among (λ m. not (t == m)) i roles h (ap not (ne_eqb t i (λ same. other ne (sym same))))))
 
   module _ (workers : ℕ) where
-    pub part-installed : (w : ℕ) (installed : List ℕ) → has w (cond (t == 0) [] (owned_by workers t installed)) ≡ true → (has w installed ≡ true) × (owner_of workers w ≡ t) × (t ≢ 0)
+    pub part-installed : (w : ℕ) (installed : List ℕ) → is_among w (cond (t == 0) [] (owned_by workers t installed)) ≡ true → (is_among w installed ≡ true) × (owner_of workers w ≡ t) × (t ≢ 0)
     part-installed w installed = at (t == 0) refl
       where
-        at : (b : Bool) → (t == 0) ≡ b → has w (cond b [] (owned_by workers t installed)) ≡ true → (has w installed ≡ true) × (owner_of workers w ≡ t) × (t ≢ 0)
+        at : (b : Bool) → (t == 0) ≡ b → is_among w (cond b [] (owned_by workers t installed)) ≡ true → (is_among w installed ≡ true) × (owner_of workers w ≡ t) × (t ≢ 0)
         at true e h = absurd (true≢false (sym h))
         at false e h = let p = has-filter (λ w. t == owner_of workers w) w installed h in (p.0, sym (eqb-true t (owner_of workers w) p.1), (λ z. not_both (t == 0) (eq-eqb t 0 z) e))
 
-    pub installed-part : (w : ℕ) (installed : List ℕ) → has w installed ≡ true → owner_of workers w ≡ t → t ≢ 0 → has w (cond (t == 0) [] (owned_by workers t installed)) ≡ true
-    installed-part w installed h own ne = rw (ne_eqb t 0 ne) (filter-has (λ w. t == owner_of workers w) w installed h (eq-eqb t (owner_of workers w) (sym own)))
+    pub installed-part : (w : ℕ) (installed : List ℕ) → is_among w installed ≡ true → owner_of workers w ≡ t → t ≢ 0 → is_among w (cond (t == 0) [] (owned_by workers t installed)) ≡ true
+    installed-part w installed h own ne = rw (ne_eqb t 0 ne) (filter-is_among (λ w. t == owner_of workers w) w installed h (eq-eqb t (owner_of workers w) (sym own)))
 
-    pub rest-installed : (w : ℕ) (installed : List ℕ) → has w (cond (t == 0) installed (owned_by_others workers t installed)) ≡ true → (has w installed ≡ true) × (t ≢ 0 → owner_of workers w ≢ t)
+    pub rest-installed : (w : ℕ) (installed : List ℕ) → is_among w (cond (t == 0) installed (owned_by_others workers t installed)) ≡ true → (is_among w installed ≡ true) × (t ≢ 0 → owner_of workers w ≢ t)
     rest-installed w installed = at (t == 0) refl
       where
-        at : (b : Bool) → (t == 0) ≡ b → has w (cond b installed (owned_by_others workers t installed)) ≡ true → (has w installed ≡ true) × (t ≢ 0 → owner_of workers w ≢ t)
+        at : (b : Bool) → (t == 0) ≡ b → is_among w (cond b installed (owned_by_others workers t installed)) ≡ true → (is_among w installed ≡ true) × (t ≢ 0 → owner_of workers w ≢ t)
         at true e h = (h, (λ ne. absurd (ne (eqb-true t 0 e))))
         at false e h = let p = has-filter (λ w. not (t == owner_of workers w)) w installed h in
             (p.0, (λ _ same. not_both (t == owner_of workers w) (eq-eqb t (owner_of workers w) (sym same)) (not_not (t == owner_of workers w) p.1)))
 
-    pub installed-rest : (w : ℕ) (installed : List ℕ) → has w installed ≡ true → (t ≢ 0 → owner_of workers w ≢ t) → has w (cond (t == 0) installed (owned_by_others workers t installed)) ≡ true
+    pub installed-rest : (w : ℕ) (installed : List ℕ) → is_among w installed ≡ true → (t ≢ 0 → owner_of workers w ≢ t) → is_among w (cond (t == 0) installed (owned_by_others workers t installed)) ≡ true
     installed-rest w installed h other = dite (ℕ_discrete t 0)
         (λ e. rw (eq-eqb t 0 e) h)
-        (λ ne. rw (ne_eqb t 0 ne) (filter-has (λ w. not (t == owner_of workers w)) w installed h (ap not (ne_eqb t (owner_of workers w) (λ same. other ne (sym same))))))
+        (λ ne. rw (ne_eqb t 0 ne) (filter-is_among (λ w. not (t == owner_of workers w)) w installed h (ap not (ne_eqb t (owner_of workers w) (λ same. other ne (sym same))))))
 
 module _ (log : Log) (workers : ℕ) (k : Facts log workers) where
   -- ---- a view with other roles, which knows the same
@@ -131,13 +132,13 @@ module _ (log : Log) (workers : ℕ) (k : Facts log workers) where
 
   -- the roles of a view are a part of those of another, with their installed numbers
   record IsPart (h' : Holders) (seat : ℕ) (v : Known) (roles installed : List ℕ) (snapshot scheduler : Bool) (written indexed : ℕ) : Type 0 where
-    held : (i : ℕ) → has i roles ≡ true → (has i v.roles ≡ true) × (h'.worker i ≡ seat)
-    numbers : (w : ℕ) → has w installed ≡ true → (has w v.installed ≡ true) × (has (owner_of workers w) roles ≡ true)
-    all_numbers : (w : ℕ) → has w v.installed ≡ true → has (owner_of workers w) roles ≡ true → has w installed ≡ true
+    held : (i : ℕ) → is_among i roles ≡ true → (is_among i v.roles ≡ true) × (h'.worker i ≡ seat)
+    numbers : (w : ℕ) → is_among w installed ≡ true → (is_among w v.installed ≡ true) × (is_among (owner_of workers w) roles ≡ true)
+    all_numbers : (w : ℕ) → is_among w v.installed ≡ true → is_among (owner_of workers w) roles ≡ true → is_among w installed ≡ true
     sees : snapshot ≡ true → (v.snapshot ≡ true) × (h'.snapshot ≡ seat)
     schedules : scheduler ≡ true → (v.scheduler ≡ true) × (h'.scheduler ≡ seat) × (written ≡ v.written) × (indexed ≡ v.indexed)
 
-  part_fits : (h h' : Holders) (x : Words) (old seat : ℕ) (v : Known) (roles installed : List ℕ) (snapshot scheduler : Bool) (written indexed : ℕ) (looks : List Look)
+  part_fits : (h h' : Holders) (x : BoardWords) (old seat : ℕ) (v : Known) (roles installed : List ℕ) (snapshot scheduler : Bool) (written indexed : ℕ) (looks : List Look)
       → h'.written ≡ h.written → h'.indexed ≡ h.indexed → IsPart h' seat v roles installed snapshot scheduler written indexed
       → All (IsLookOf (names_in log.txns) v.floors v.place v.scheduled) looks → All (IsFoundInstalled log workers x) looks
       → Seat log workers k h x old v → Seat log workers k h' x seat (reroled v roles installed snapshot scheduler written indexed looks)
@@ -168,7 +169,7 @@ module _ (log : Log) (workers : ℕ) (k : Facts log workers) where
 
   -- the view holds what is taken
   pub record HoldsTaken (taken : Taken) (v : Known) : Type 0 where
-    pub worker : taken.worker ≢ 0 → has taken.worker v.roles ≡ true
+    pub worker : taken.worker ≢ 0 → is_among taken.worker v.roles ≡ true
     pub snapshot : taken.snapshot ≡ true → v.snapshot ≡ true
     pub scheduler : taken.scheduler ≡ true → v.scheduler ≡ true
 
@@ -176,7 +177,7 @@ module _ (log : Log) (workers : ℕ) (k : Facts log workers) where
     abbrev new : ℕ
     new = length s.views
 
-    abbrev x : Words
+    abbrev x : BoardWords
     x = words_in log workers k s
 
     -- the taken roles are with the new seat
@@ -194,12 +195,12 @@ module _ (log : Log) (workers : ℕ) (k : Facts log workers) where
         part_fits r.holders after x id (length s.views) v (cond (taken.worker == 0) [] (taken.worker ∷ [])) (cond (taken.worker == 0) [] (owned_by v.workers taken.worker v.installed)) taken.snapshot taken.scheduler
         (cond taken.scheduler v.written 0) (cond taken.scheduler v.indexed 0) [] refl refl
         (record {
-          held = λ i has_i. let q = part-has taken.worker i has_i in
-              (subst (λ (j : ℕ). has j v.roles ≡ true) (sym q.0) (is.worker q.1), subst (λ (j : ℕ). passed taken.worker (length s.views) r.holders.worker j ≡ length s.views) (sym q.0) (passed_here taken.worker (length s.views) r.holders.worker q.1));
+          held = λ i has_i. let q = part-is_among taken.worker i has_i in
+              (subst (λ (j : ℕ). is_among j v.roles ≡ true) (sym q.0) (is.worker q.1), subst (λ (j : ℕ). passed taken.worker (length s.views) r.holders.worker j ≡ length s.views) (sym q.0) (passed_here taken.worker (length s.views) r.holders.worker q.1));
           numbers = λ w has_w. let q = part-installed taken.worker v.workers w v.installed has_w in
               let own : owner_of workers w ≡ taken.worker = ap (λ (n : ℕ). owner_of n w) (sym f.same_workers) ∙ q.1 in
-              (q.0, subst (λ (j : ℕ). has j (cond (taken.worker == 0) [] (taken.worker ∷ [])) ≡ true) (sym own) (has-part taken.worker q.2));
-          all_numbers = λ w has_w own. let q = part-has taken.worker (owner_of workers w) own in
+              (q.0, subst (λ (j : ℕ). is_among j (cond (taken.worker == 0) [] (taken.worker ∷ [])) ≡ true) (sym own) (has-part taken.worker q.2));
+          all_numbers = λ w has_w own. let q = part-is_among taken.worker (owner_of workers w) own in
               installed-part taken.worker v.workers w v.installed has_w (ap (λ (n : ℕ). owner_of n w) f.same_workers ∙ q.0) q.1;
           sees = λ t. (is.snapshot t, ap (λ (b : Bool). cond b (length s.views) r.holders.snapshot) t);
           schedules = λ t. (is.scheduler t, ap (λ (b : Bool). cond b (length s.views) r.holders.scheduler) t, ap (λ (b : Bool). cond b v.written 0) t, ap (λ (b : Bool). cond b v.indexed 0) t);
@@ -211,10 +212,10 @@ module _ (log : Log) (workers : ℕ) (k : Facts log workers) where
         part_fits r.holders after x id id v (cond (taken.worker == 0) v.roles (without taken.worker v.roles)) (cond (taken.worker == 0) v.installed (owned_by_others v.workers taken.worker v.installed))
         (cond taken.snapshot false v.snapshot) (cond taken.scheduler false v.scheduler) (cond taken.scheduler 0 v.written) (cond taken.scheduler 0 v.indexed) v.looks refl refl
         (record {
-          held = λ i has_i. let q = rest-has taken.worker i v.roles has_i in (q.0, passed_else taken.worker (length s.views) r.holders.worker i q.1 ∙ (f.roles i q.0).1);
+          held = λ i has_i. let q = rest-is_among taken.worker i v.roles has_i in (q.0, passed_else taken.worker (length s.views) r.holders.worker i q.1 ∙ (f.roles i q.0).1);
           numbers = λ w has_w. let q = rest-installed taken.worker v.workers w v.installed has_w in
               (q.0, has-rest taken.worker (owner_of workers w) v.roles (f.installed w q.0).1 (λ ne same. q.1 ne (ap (λ (n : ℕ). owner_of n w) f.same_workers ∙ same)));
-          all_numbers = λ w has_w own. let q = rest-has taken.worker (owner_of workers w) v.roles own in
+          all_numbers = λ w has_w own. let q = rest-is_among taken.worker (owner_of workers w) v.roles own in
               installed-rest taken.worker v.workers w v.installed has_w (λ ne same. q.1 ne (ap (λ (n : ℕ). owner_of n w) (sym f.same_workers) ∙ same));
           sees = rest_sees taken.snapshot refl f;
           schedules = rest_schedules taken.scheduler refl f;
@@ -285,14 +286,14 @@ module _ (log : Log) (workers : ℕ) (k : Facts log workers) where
     held_by_flag true old role on off h = (part_view taken v, at_right, on refl)
     held_by_flag false old role on off h = stays_held old role (off refl) h
 
-    worker_held : (i : ℕ) → IsWorker workers i → (u : Known) × (get_elem? (set s.views id (rest_view taken v) ++ part_view taken v ∷ []) (passed taken.worker (length s.views) r.holders.worker i) ≡ some u) × (has i u.roles ≡ true)
+    worker_held : (i : ℕ) → IsWorker workers i → (u : Known) × (get_elem? (set s.views id (rest_view taken v) ++ part_view taken v ∷ []) (passed taken.worker (length s.views) r.holders.worker i) ≡ some u) × (is_among i u.roles ≡ true)
     worker_held i is_i = dite (ℕ_discrete i taken.worker)
         (λ same. let ne : taken.worker ≢ 0 = λ z. omega (arith, is_i.0) in (
           part_view taken v,
           subst (λ (j : ℕ). get_elem? (set s.views id (rest_view taken v) ++ part_view taken v ∷ []) j ≡ some (part_view taken v)) (sym (ap (passed taken.worker (length s.views) r.holders.worker) same ∙ passed_here taken.worker (length s.views) r.holders.worker ne)) at_right,
-          subst (λ (j : ℕ). has j (cond (taken.worker == 0) [] (taken.worker ∷ [])) ≡ true) (sym same) (has-part taken.worker ne),
+          subst (λ (j : ℕ). is_among j (cond (taken.worker == 0) [] (taken.worker ∷ [])) ≡ true) (sym same) (has-part taken.worker ne),
         ))
-        (λ other. let h = stays_held (r.holders.worker i) (λ u. has i u.roles) (λ has_i. has-rest taken.worker i v.roles has_i (λ _. other)) (r.workers_held i is_i) in (
+        (λ other. let h = stays_held (r.holders.worker i) (λ u. is_among i u.roles) (λ has_i. has-rest taken.worker i v.roles has_i (λ _. other)) (r.workers_held i is_i) in (
           h.0,
           subst (λ (j : ℕ). get_elem? (set s.views id (rest_view taken v) ++ part_view taken v ∷ []) j ≡ some h.0) (sym (passed_else taken.worker (length s.views) r.holders.worker i (λ _. other))) h.1,
           h.2,
@@ -329,7 +330,7 @@ module _ (log : Log) (workers : ℕ) (k : Facts log workers) where
     | no gt ↦ let g = lt_of_not-le gt in let e = k.owners.own n positive (omega (arith, is.1)) in omega arith
   ]
 
-  pub spent_fits : (h : Holders) (x : Words) (seat : ℕ) → ((i : ℕ) → IsWorker workers i → (1 ≤ x.progress i) × (owner_of workers (x.progress i) ≡ i)) → Seat log workers k h x seat (spent_view log workers)
+  pub spent_fits : (h : Holders) (x : BoardWords) (seat : ℕ) → ((i : ℕ) → IsWorker workers i → (1 ≤ x.progress i) × (owner_of workers (x.progress i) ≡ i)) → Seat log workers k h x seat (spent_view log workers)
   spent_fits h x seat progress = record {
     same_log = refl;
     same_workers = refl;
@@ -354,12 +355,12 @@ module _ (log : Log) (workers : ℕ) (k : Facts log workers) where
   }
 
   module _ (id : ℕ) (v : Known) (other : ℕ) (w : Known) (s : St log workers k) (r : Rule log workers k s) (at : get_elem? s.views id ≡ some v) (apart : other ≢ id) (at_w : get_elem? s.views other ≡ some w) where
-    abbrev y : Words
+    abbrev y : BoardWords
     y = words_in log workers k s
 
     abbrev joint : Holders
     joint = record {
-      worker = λ i. cond (has i w.roles) id (r.holders.worker i);
+      worker = λ i. cond (is_among i w.roles) id (r.holders.worker i);
       snapshot = cond w.snapshot id r.holders.snapshot;
       scheduler = cond w.scheduler id r.holders.scheduler;
       written = r.holders.written;
@@ -394,22 +395,22 @@ module _ (log : Log) (workers : ℕ) (k : Facts log workers) where
         (refl, omega arith, g.written, g.indexed)
     both_schedules false false e_v e_w h = absurd (true≢false (sym h))
 
-    worker_joined : (i : ℕ) → has i (v.roles ++ w.roles) ≡ true → cond (has i w.roles) id (r.holders.worker i) ≡ id
-    worker_joined i h = flagged (has i w.roles) id (r.holders.worker i) id (λ _. refl)
-        (λ not_w. ⊎_elim (λ (of_v : has i v.roles ≡ true). ((r.each id v at).roles i of_v).1) (λ (of_w : has i w.roles ≡ true). absurd (not_both (has i w.roles) of_w not_w)) (has_part i v.roles w.roles h))
+    worker_joined : (i : ℕ) → is_among i (v.roles ++ w.roles) ≡ true → cond (is_among i w.roles) id (r.holders.worker i) ≡ id
+    worker_joined i h = flagged (is_among i w.roles) id (r.holders.worker i) id (λ _. refl)
+        (λ not_w. ⊎_elim (λ (of_v : is_among i v.roles ≡ true). ((r.each id v at).roles i of_v).1) (λ (of_w : is_among i w.roles ≡ true). absurd (not_both (is_among i w.roles) of_w not_w)) (has_part i v.roles w.roles h))
 
     both_fits : Seat log workers k joint y id (joined_view v w)
     both_fits = let f = r.each id v at in let g = r.each other w at_w in let same_count = f.count ∙ sym g.count in record {
       same_log = f.same_log;
       same_workers = f.same_workers;
-      roles = λ i h. (⊎_elim (λ (of_v : has i v.roles ≡ true). (f.roles i of_v).0) (λ (of_w : has i w.roles ≡ true). (g.roles i of_w).0) (has_part i v.roles w.roles h), worker_joined i h);
+      roles = λ i h. (⊎_elim (λ (of_v : is_among i v.roles ≡ true). (f.roles i of_v).0) (λ (of_w : is_among i w.roles ≡ true). (g.roles i of_w).0) (has_part i v.roles w.roles h), worker_joined i h);
       installed = λ q h. ⊎_elim
-          (λ (of_v : has q v.installed ≡ true). let p = f.installed q of_v in (p.0, has_front (owner_of workers q) v.roles w.roles p.1))
-          (λ (of_w : has q w.installed ≡ true). let p = g.installed q of_w in (p.0, has_back (owner_of workers q) v.roles w.roles p.1))
+          (λ (of_v : is_among q v.installed ≡ true). let p = f.installed q of_v in (p.0, has_front (owner_of workers q) v.roles w.roles p.1))
+          (λ (of_w : is_among q w.installed ≡ true). let p = g.installed q of_w in (p.0, has_back (owner_of workers q) v.roles w.roles p.1))
           (has_part q v.installed w.installed h);
       all_installed = λ q is own. ⊎_elim
-          (λ (of_v : has (owner_of workers q) v.roles ≡ true). has_front q v.installed w.installed (f.all_installed q is of_v))
-          (λ (of_w : has (owner_of workers q) w.roles ≡ true). has_back q v.installed w.installed (g.all_installed q is of_w))
+          (λ (of_v : is_among (owner_of workers q) v.roles ≡ true). has_front q v.installed w.installed (f.all_installed q is of_v))
+          (λ (of_w : is_among (owner_of workers q) w.roles ≡ true). has_back q v.installed w.installed (g.all_installed q is of_w))
           (has_part (owner_of workers q) v.roles w.roles own);
       count = greater-length v.floors w.floors same_count ∙ f.count;
       floors = λ i is. let a = f.floors i is in let b = g.floors i is in let e = greater-of v.floors w.floors i same_count in
@@ -422,8 +423,8 @@ module _ (log : Log) (workers : ℕ) (k : Facts log workers) where
             reached = omega arith;
           };
       own_floors = λ i h. let e = greater-of v.floors w.floors i same_count in ⊎_elim
-          (λ (of_v : has i v.roles ≡ true). let a = f.own_floors i of_v in let b = (g.floors i (f.roles i of_v).0).reached in omega arith)
-          (λ (of_w : has i w.roles ≡ true). let a = g.own_floors i of_w in let b = (f.floors i (g.roles i of_w).0).reached in omega arith)
+          (λ (of_v : is_among i v.roles ≡ true). let a = f.own_floors i of_v in let b = (g.floors i (f.roles i of_v).0).reached in omega arith)
+          (λ (of_w : is_among i w.roles ≡ true). let a = g.own_floors i of_w in let b = (f.floors i (g.roles i of_w).0).reached in omega arith)
           (has_part i v.roles w.roles h);
       place = let a = f.place in let b = g.place in omega arith;
       scheduled = let a = f.scheduled in let b = g.scheduled in omega arith;
@@ -446,7 +447,7 @@ module _ (log : Log) (workers : ℕ) (k : Facts log workers) where
     third_fits j u not_id not_other at_j = let g = r.each other w at_w in let z = r.each j u at_j in
         part_fits r.holders joint y j j u u.roles u.installed u.snapshot u.scheduler u.written u.indexed u.looks refl refl
         (record {
-          held = λ i has_i. (has_i, flagged (has i w.roles) id (r.holders.worker i) j (λ of_w. absurd (not_other (sym (z.roles i has_i).1 ∙ (g.roles i of_w).1))) (λ _. (z.roles i has_i).1));
+          held = λ i has_i. (has_i, flagged (is_among i w.roles) id (r.holders.worker i) j (λ of_w. absurd (not_other (sym (z.roles i has_i).1 ∙ (g.roles i of_w).1))) (λ _. (z.roles i has_i).1));
           numbers = λ q has_q. (has_q, (z.installed q has_q).1);
           all_numbers = λ q has_q own. has_q;
           sees = λ h. (h, flagged w.snapshot id r.holders.snapshot j (λ of_w. absurd (not_other (sym (z.snapshot h).holder ∙ (g.snapshot of_w).holder))) (λ _. (z.snapshot h).holder));
@@ -487,7 +488,7 @@ module _ (log : Log) (workers : ℕ) (k : Facts log workers) where
           (λ (q : (j ≢ id) × (get_elem? s.views j ≡ some u)). third_fits j u q.0 t.0 q.1)
           (at_set s.views id j (joined_view v w) u t.1))
           (at_set (set s.views id (joined_view v w)) other j (spent_view log workers) u e);
-      workers_held = λ i is. role_joined (has i w.roles) (r.holders.worker i) (λ u. has i u.roles) refl (λ h. has_front i v.roles w.roles h) (λ h. has_back i v.roles w.roles h) (r.workers_held i is);
+      workers_held = λ i is. role_joined (is_among i w.roles) (r.holders.worker i) (λ u. is_among i u.roles) refl (λ h. has_front i v.roles w.roles h) (λ h. has_back i v.roles w.roles h) (r.workers_held i is);
       snapshot_held = role_joined w.snapshot r.holders.snapshot (λ u. u.snapshot) refl (λ h. or_left v.snapshot w.snapshot h) (λ h. or_right v.snapshot w.snapshot h) r.snapshot_held;
       scheduler_held = role_joined w.scheduler r.holders.scheduler (λ u. u.scheduler) refl (λ h. or_left v.scheduler w.scheduler h) (λ h. or_right v.scheduler w.scheduler h) r.scheduler_held;
     }

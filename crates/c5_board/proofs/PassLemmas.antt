@@ -6,7 +6,7 @@ use Rattle.c5_board.specs.declared.known.Known.{Known}
 use Rattle.c5_board.specs.declared.known.Record.{Record}
 use Rattle.c5_board.specs.Words.{packed}
 use Rattle.atomic_table.specs.Seated.{TableId}
-use Rattle.c5_board.specs.HeldPass.{shown, IsPass}
+use Rattle.c5_board.specs.HeldPass.{shown_pass, IsPass}
 use Rattle.c5_board.specs.Boards.{Board, Pass, pass_of}
 use Rattle.c5_board.specs.Passes.{IsSound}
 use Rattle.c5_board.specs.declared.known.Look.{Look}
@@ -25,8 +25,8 @@ still_pass p p' v place none b = record {
 }
 
 -- a pass with one more look
-pub looked_pass : (p p' : Inside) (now : Pass) → shown p ≡ now → p'.seat.table_id ≡ p.seat.table_id → (look look' : Look) → look ≡ look' → p'.seat.me ≡ (with_look p.seat.me.0 look, p.seat.me.1)
-    → shown p' ≡ record now { looks = now.looks ++ look' ∷ [] }
+pub looked_pass : (p p' : Inside) (now : Pass) → shown_pass p ≡ now → p'.seat.table_id ≡ p.seat.table_id → (look look' : Look) → look ≡ look' → p'.seat.me ≡ (with_look p.seat.me.0 look, p.seat.me.1)
+    → shown_pass p' ≡ record now { looks = now.looks ++ look' ∷ [] }
 looked_pass p p' now is table look look' same me = (λ t. pass_of (table t) (me t).0) ∙ (λ t. record (is t) { looks = (is t).looks ++ same t ∷ [] })
 
 -- the parts of a split
@@ -34,24 +34,24 @@ pub rest_pass : (p p' : Inside) (taken : Taken) → p'.place ≡ p.place → p'.
 rest_pass p p' taken place table me is = record {
   place = place ∙ (is.place ∙ sym (ap (λ (m : Seated). m.0.place) me));
   no_slots = ap (λ (m : Seated). m.1) me ∙ is.no_slots;
-  sound = subst (λ (z : TableId × Seated). IsSound (pass_of z.0 z.1.0)) (λ t. (sym table t, sym me t)) (sound_rest taken (shown p) is.sound);
+  sound = subst (λ (z : TableId × Seated). IsSound (pass_of z.0 z.1.0)) (λ t. (sym table t, sym me t)) (sound_rest taken (shown_pass p) is.sound);
 }
 
-pub part_pass : (p p' : Inside) (taken : Taken) → Holds (shown p) taken → p'.place ≡ p.place → p'.seat.table_id ≡ p.seat.table_id → p'.seat.me ≡ (part_view taken p.seat.me.0, []) → IsPass p → IsPass p'
+pub part_pass : (p p' : Inside) (taken : Taken) → Holds (shown_pass p) taken → p'.place ≡ p.place → p'.seat.table_id ≡ p.seat.table_id → p'.seat.me ≡ (part_view taken p.seat.me.0, []) → IsPass p → IsPass p'
 part_pass p p' taken holds place table me is = record {
   place = place ∙ (is.place ∙ sym (ap (λ (m : Seated). m.0.place) me));
   no_slots = ap (λ (m : Seated). m.1) me;
-  sound = subst (λ (z : TableId × Seated). IsSound (pass_of z.0 z.1.0)) (λ t. (sym table t, sym me t)) (sound_part taken (shown p) holds is.sound);
+  sound = subst (λ (z : TableId × Seated). IsSound (pass_of z.0 z.1.0)) (λ t. (sym table t, sym me t)) (sound_part taken (shown_pass p) holds is.sound);
 }
 
 -- a joined pass
-pub joined_pass : (p q p' : Inside) → Facts p.seat.me.0.log p.seat.me.0.workers → (shown q).board ≡ (shown p).board → p'.place ≡ max p.place q.place → p'.seat.table_id ≡ p.seat.table_id
+pub joined_pass : (p q p' : Inside) → Facts p.seat.me.0.log p.seat.me.0.workers → (shown_pass q).board ≡ (shown_pass p).board → p'.place ≡ max p.place q.place → p'.seat.table_id ≡ p.seat.table_id
     → p'.seat.me ≡ (joined_view p.seat.me.0 q.seat.me.0, p.seat.me.1) → IsPass p → IsPass q → IsPass p'
 joined_pass p q p' k same place table me is other = let a = is.place in let b = other.place in record {
   place = (let e = ap (λ (m : Seated). m.0.place) me in omega arith);
   no_slots = ap (λ (m : Seated). m.1) me ∙ is.no_slots;
   sound = subst (λ (z : TableId × Seated). IsSound (pass_of z.0 z.1.0)) (λ t. (sym table t, sym me t))
-      (sound_joined (shown p).board k (shown p) (shown q) is.sound (subst (λ (z : Board). IsSound (on_board z (shown q))) same other.sound));
+      (sound_joined (shown_pass p).board k (shown_pass p) (shown_pass q) is.sound (subst (λ (z : Board). IsSound (on_board z (shown_pass q))) same other.sound));
 }
 
 -- ---- records as numbers

@@ -16,11 +16,12 @@ use Rattle.c5_frames.specs.Log.{Log}
 use Rattle.c5_board.specs.declared.known.Known.{Known}
 use Rattle.c5_board.specs.declared.known.Look.{Look}
 use Rattle.c5_board.specs.declared.known.Look.TheVariants.{LoadHead, ExchangeHead, LoadProgress, LoadVisible, LoadRecord, LoadScheduled, LoadBucket}
-use Rattle.c5_board.specs.Sets.{has, number_of}
+use Rattle.c5_board.specs.Sets.{number_of}
+use Rattle.c5_rows.specs.Numbers.{is_among}
 use Rattle.c5_board.specs.Words.{word_count}
 use Rattle.c5_board.specs.Boards.{Pass, IsWorker}
 use Rattle.c5_board.specs.Passes.{IsLookOf, IsReached, IsSound, CoversRow}
-use Rattle.c5_board.specs.Rule.{Words, words_of, Holders, IsInstalled, WordsFit, IsFoundInstalled, SeatFits, IsKept}
+use Rattle.c5_board.specs.Rule.{BoardWords, board_words, Holders, IsInstalled, WordsFit, IsFoundInstalled, SeatFits, IsKept}
 use Rattle.c5_board.proofs.Facts.{Facts}
 use Rattle.c5_board.proofs.WordLemmas.{SameHeads}
 
@@ -58,14 +59,14 @@ module _ (log : Log) (workers : ℕ) (k : Facts log workers) where
   abbrev pub Rule : St → Type 0
   Rule s = IsKept log workers s
 
-  abbrev pub Inst : Words → ℕ → Type 0
+  abbrev pub Inst : BoardWords → ℕ → Type 0
   Inst x w = IsInstalled log workers x w
 
-  abbrev pub Seat : Holders → Words → ℕ → Known → Type 0
+  abbrev pub Seat : Holders → BoardWords → ℕ → Known → Type 0
   Seat h x seat v = SeatFits log workers h x seat v
 
-  abbrev pub words_in : St → Words
-  words_in s = words_of log workers s.words
+  abbrev pub words_in : St → BoardWords
+  words_in s = board_words log workers s.words
 
   abbrev pub names : List RowName
   names = names_in log.txns
@@ -78,22 +79,22 @@ module _ (log : Log) (workers : ℕ) (k : Facts log workers) where
 
   -- ---- words grow
 
-  pub record Grown (x y : Words) : Type 0 where
+  pub record Grown (x y : BoardWords) : Type 0 where
     pub heads : (w : ℕ) → IsWrite (names_in log.txns) w → x.head w ≤ y.head w
     pub progress : (i : ℕ) → IsWorker workers i → x.progress i ≤ y.progress i
     pub scheduled : x.scheduled ≤ y.scheduled
     pub visible : x.visible ≤ y.visible
 
-  pub inst_grown : (x y : Words) (w : ℕ) → ((v : ℕ) → IsWrite (names_in log.txns) v → x.head v ≤ y.head v) → Inst x w → Inst y w
+  pub inst_grown : (x y : BoardWords) (w : ℕ) → ((v : ℕ) → IsWrite (names_in log.txns) v → x.head v ≤ y.head v) → Inst x w → Inst y w
   inst_grown x y w grown is = let h = grown (row_of (names_in log.txns) w) (k.rows.first w is.write).write in let reached = is.reached in record { write = is.write; reached = omega arith }
 
-  pub same_grown : (x y : Words) → SameHeads log workers x y → (v : ℕ) → IsWrite (names_in log.txns) v → x.head v ≤ y.head v
+  pub same_grown : (x y : BoardWords) → SameHeads log workers x y → (v : ℕ) → IsWrite (names_in log.txns) v → x.head v ≤ y.head v
   same_grown x y same v is = let e = same v is in omega arith
 
-  pub inst_same : (x y : Words) (w : ℕ) → SameHeads log workers x y → Inst x w → Inst y w
+  pub inst_same : (x y : BoardWords) (w : ℕ) → SameHeads log workers x y → Inst x w → Inst y w
   inst_same x y w same is = inst_grown x y w (same_grown x y same) is
 
-  pub found_grown : (x y : Words) → ((v : ℕ) → IsWrite (names_in log.txns) v → x.head v ≤ y.head v) → (look : Look) → IsFoundInstalled log workers x look → IsFoundInstalled log workers y look
+  pub found_grown : (x y : BoardWords) → ((v : ℕ) → IsWrite (names_in log.txns) v → x.head v ≤ y.head v) → (look : Look) → IsFoundInstalled log workers x look → IsFoundInstalled log workers y look
   found_grown x y grown (LoadHead row found) h = λ ne. inst_grown x y found grown (h ne)
   found_grown x y grown (ExchangeHead w found) h = λ ne. inst_grown x y found grown (h ne)
   found_grown x y grown (LoadProgress i found) h = tt
@@ -105,13 +106,13 @@ module _ (log : Log) (workers : ℕ) (k : Facts log workers) where
   -- ---- the other seats
 
   -- what changes is no matter of this view's roles
-  pub record Untouched (h : Holders) (written indexed : ℕ) (x y : Words) (u : Known) : Type 0 where
-    pub installs : (w : ℕ) → Inst y w → has (owner_of workers w) u.roles ≡ true → Inst x w
-    pub progress : (i : ℕ) → has i u.roles ≡ true → y.progress i ≡ x.progress i
+  pub record Untouched (h : Holders) (written indexed : ℕ) (x y : BoardWords) (u : Known) : Type 0 where
+    pub installs : (w : ℕ) → Inst y w → is_among (owner_of workers w) u.roles ≡ true → Inst x w
+    pub progress : (i : ℕ) → is_among i u.roles ≡ true → y.progress i ≡ x.progress i
     pub snapshot : u.snapshot ≡ true → y.visible ≡ x.visible
     pub scheduler : u.scheduler ≡ true → (y.scheduled ≡ x.scheduled) × (written ≡ h.written) × (indexed ≡ h.indexed)
 
-  pub stays : (h : Holders) (written indexed : ℕ) (x y : Words) (seat : ℕ) (u : Known) → Grown x y → Untouched h written indexed x y u → Seat h x seat u → Seat (with_marks h written indexed) y seat u
+  pub stays : (h : Holders) (written indexed : ℕ) (x y : BoardWords) (seat : ℕ) (u : Known) → Grown x y → Untouched h written indexed x y u → Seat h x seat u → Seat (with_marks h written indexed) y seat u
   stays h written indexed x y seat u grown same f = record {
     same_log = f.same_log;
     same_workers = f.same_workers;
@@ -155,19 +156,19 @@ module _ (log : Log) (workers : ℕ) (k : Facts log workers) where
 
   pub moved : (s : St) (r : Rule s) (id : ℕ) (v w : Known) (words : List ℕ) (homes : List (maybe.Option (Unit {0}))) (written indexed : ℕ)
       → get_elem? s.views id ≡ some v → SameRoles v w → length words ≡ word_count log workers
-      → WordsFit log workers written indexed (words_of log workers words)
-      → Seat (with_marks r.holders written indexed) (words_of log workers words) id w
-      → ((j : ℕ) (u : Known) → j ≢ id → get_elem? s.views j ≡ some u → Seat (with_marks r.holders written indexed) (words_of log workers words) j u)
+      → WordsFit log workers written indexed (board_words log workers words)
+      → Seat (with_marks r.holders written indexed) (board_words log workers words) id w
+      → ((j : ℕ) (u : Known) → j ≢ id → get_elem? s.views j ≡ some u → Seat (with_marks r.holders written indexed) (board_words log workers words) j u)
       → Rule (record { words = words; homes = homes; views = set s.views id w })
   moved s r id v w words homes written indexed at same count fit mine others = record {
     holders = with_marks r.holders written indexed;
     count = count;
     words = fit;
     each = λ j u e. ⊎_elim
-        (λ (t : (j ≡ id) × (w ≡ u)). subst (λ (z : ℕ × Known). Seat (with_marks r.holders written indexed) (words_of log workers words) z.0 z.1) (λ i. (sym t.0 i, t.1 i)) mine)
+        (λ (t : (j ≡ id) × (w ≡ u)). subst (λ (z : ℕ × Known). Seat (with_marks r.holders written indexed) (board_words log workers words) z.0 z.1) (λ i. (sym t.0 i, t.1 i)) mine)
         (λ (t : (j ≢ id) × (get_elem? s.views j ≡ some u)). others j u t.0 t.1)
         (at_set s.views id j w u e);
-    workers_held = λ i is. still_held s id v w (r.holders.worker i) (λ u. has i u.roles) at (ap (has i) same.worker_roles) (r.workers_held i is);
+    workers_held = λ i is. still_held s id v w (r.holders.worker i) (λ u. is_among i u.roles) at (ap (is_among i) same.worker_roles) (r.workers_held i is);
     snapshot_held = still_held s id v w r.holders.snapshot (λ u. u.snapshot) at same.snapshot_role r.snapshot_held;
     scheduler_held = still_held s id v w r.holders.scheduler (λ u. u.scheduler) at same.scheduler_role r.scheduler_held;
   }
@@ -205,7 +206,7 @@ module _ (log : Log) (workers : ℕ) (k : Facts log workers) where
     looks = v.looks;
   }
 
-  pub sound : (table : TableId) (h : Holders) (x : Words) (seat : ℕ) (v : Known) → WordsFit log workers h.written h.indexed x → Seat h x seat v → IsSound (shows table v)
+  pub sound : (table : TableId) (h : Holders) (x : BoardWords) (seat : ℕ) (v : Known) → WordsFit log workers h.written h.indexed x → Seat h x seat v → IsSound (shows table v)
   sound table h x seat v fit f = record {
     workers = λ i role. (f.roles i role).0;
     installed = λ w is. let i = f.installed w is in (i.0.write, i.1);
@@ -218,7 +219,7 @@ module _ (log : Log) (workers : ℕ) (k : Facts log workers) where
   }
 
   -- the head of a row covers what the pass knows of the row
-  reached_head : (x : Words) (row : ℕ) (look : Look) → (floors : List ℕ) (place scheduled : ℕ) → IsLookOf (names_in log.txns) floors place scheduled look → IsFoundInstalled log workers x look → IsReached (names_in log.txns) row (x.head row) look
+  reached_head : (x : BoardWords) (row : ℕ) (look : Look) → (floors : List ℕ) (place scheduled : ℕ) → IsLookOf (names_in log.txns) floors place scheduled look → IsFoundInstalled log workers x look → IsReached (names_in log.txns) row (x.head row) look
   reached_head x row (LoadHead r found) floors place scheduled h g = λ e. dite (ℕ_discrete found 0) (λ z. omega arith)
       (λ ne. let i = (g ne).reached in let on = (h.0 ne).1 in let same : x.head (row_of (names_in log.txns) found) ≡ x.head row = ap x.head (on ∙ e) in omega arith)
   reached_head x row (ExchangeHead w found) floors place scheduled h g = λ e. dite (ℕ_discrete found 0) (λ z. omega arith)
@@ -229,11 +230,11 @@ module _ (log : Log) (workers : ℕ) (k : Facts log workers) where
   reached_head x row (LoadScheduled found) floors place scheduled h g = tt
   reached_head x row (LoadBucket j found) floors place scheduled h g = tt
 
-  all_reached : (x : Words) (row : ℕ) (floors : List ℕ) (place scheduled : ℕ) (looks : List Look) → All (IsLookOf (names_in log.txns) floors place scheduled) looks → All (IsFoundInstalled log workers x) looks
+  all_reached : (x : BoardWords) (row : ℕ) (floors : List ℕ) (place scheduled : ℕ) (looks : List Look) → All (IsLookOf (names_in log.txns) floors place scheduled) looks → All (IsFoundInstalled log workers x) looks
       → All (IsReached (names_in log.txns) row (x.head row)) looks
   all_reached x row floors place scheduled looks h g = λ i d within. reached_head x row (get_or looks i d) floors place scheduled (h i d within) (g i d within)
 
-  installed_below : (x : Words) (row w : ℕ) → row_of (names_in log.txns) w ≡ row → Inst x w → w ≤ x.head row
+  installed_below : (x : BoardWords) (row w : ℕ) → row_of (names_in log.txns) w ≡ row → Inst x w → w ≤ x.head row
   installed_below x row w on is = let reached = is.reached in let same : x.head (row_of (names_in log.txns) w) ≡ x.head row = ap x.head on in omega arith
 
   pub covers : (table : TableId) (s : St) (r : Rule s) (seat : ℕ) (v : Known) (row : ℕ) → Seat r.holders (words_in s) seat v → CoversRow (shows table v) row ((words_in s).head row)

@@ -5,7 +5,8 @@ use Rattle.std.proofs.lemmas.Bool.{eqb-true}
 use mathlib.Core.Logic.{dite}
 use native.Mathlib.Decide.{ℕ_discrete}
 use Rattle.std.proofs.Common.{eq-eqb}
-use Rattle.c5_board.specs.Sets.{has, numbers_from, number_of, with_number, greater_of_each}
+use Rattle.c5_board.specs.Sets.{number_of, with_number, greater_of_each}
+use Rattle.c5_rows.specs.Numbers.{is_among, numbers_from}
 
 pub not_both : (b : Bool) → b ≡ true → b ≡ false → ⊥
 not_both b is isnt = true≢false (sym is ∙ isnt)
@@ -32,73 +33,73 @@ or_part false b h = inr h
 
 -- ---- sets
 
-pub has-here : (n : ℕ) (xs : List ℕ) → has n (n ∷ xs) ≡ true
-has-here n xs = or_left (n == n) (has n xs) (eq-eqb n n refl)
+pub has-here : (n : ℕ) (xs : List ℕ) → is_among n (n ∷ xs) ≡ true
+has-here n xs = or_left (n == n) (is_among n xs) (eq-eqb n n refl)
 
-pub has-more : (n m : ℕ) (xs : List ℕ) → has n xs ≡ true → has n (m ∷ xs) ≡ true
-has-more n m xs h = or_right (n == m) (has n xs) h
+pub has-more : (n m : ℕ) (xs : List ℕ) → is_among n xs ≡ true → is_among n (m ∷ xs) ≡ true
+has-more n m xs h = or_right (n == m) (is_among n xs) h
 
-pub has-split : (n m : ℕ) (xs : List ℕ) → has n (m ∷ xs) ≡ true → (n ≡ m) ⊎ (has n xs ≡ true)
-has-split n m xs h = ⊎_elim (λ (e : (n == m) ≡ true). inl (eqb-true n m e)) (λ t. inr t) (or_part (n == m) (has n xs) h)
+pub has-split : (n m : ℕ) (xs : List ℕ) → is_among n (m ∷ xs) ≡ true → (n ≡ m) ⊎ (is_among n xs ≡ true)
+has-split n m xs h = ⊎_elim (λ (e : (n == m) ≡ true). inl (eqb-true n m e)) (λ t. inr t) (or_part (n == m) (is_among n xs) h)
 
-pub has_front : (n : ℕ) (xs ys : List ℕ) → has n xs ≡ true → has n (xs ++ ys) ≡ true
+pub has_front : (n : ℕ) (xs ys : List ℕ) → is_among n xs ≡ true → is_among n (xs ++ ys) ≡ true
 has_front n [] ys h = absurd (true≢false (sym h))
-has_front n (x ∷ xs) ys h = ⊎_elim (λ (e : (n == x) ≡ true). or_left (n == x) (has n (xs ++ ys)) e) (λ t. or_right (n == x) (has n (xs ++ ys)) (has_front n xs ys t)) (or_part (n == x) (has n xs) h)
+has_front n (x ∷ xs) ys h = ⊎_elim (λ (e : (n == x) ≡ true). or_left (n == x) (is_among n (xs ++ ys)) e) (λ t. or_right (n == x) (is_among n (xs ++ ys)) (has_front n xs ys t)) (or_part (n == x) (is_among n xs) h)
 
-pub has_back : (n : ℕ) (xs ys : List ℕ) → has n ys ≡ true → has n (xs ++ ys) ≡ true
+pub has_back : (n : ℕ) (xs ys : List ℕ) → is_among n ys ≡ true → is_among n (xs ++ ys) ≡ true
 has_back n [] ys h = h
-has_back n (x ∷ xs) ys h = or_right (n == x) (has n (xs ++ ys)) (has_back n xs ys h)
+has_back n (x ∷ xs) ys h = or_right (n == x) (is_among n (xs ++ ys)) (has_back n xs ys h)
 
-pub has_part : (n : ℕ) (xs ys : List ℕ) → has n (xs ++ ys) ≡ true → (has n xs ≡ true) ⊎ (has n ys ≡ true)
+pub has_part : (n : ℕ) (xs ys : List ℕ) → is_among n (xs ++ ys) ≡ true → (is_among n xs ≡ true) ⊎ (is_among n ys ≡ true)
 has_part n [] ys h = inr h
-has_part n (x ∷ xs) ys h = ⊎_elim (λ (e : (n == x) ≡ true). inl (or_left (n == x) (has n xs) e))
-    (λ (t : has n (xs ++ ys) ≡ true). ⊎_elim (λ l. inl (or_right (n == x) (has n xs) l)) (λ r. inr r) (has_part n xs ys t))
-    (or_part (n == x) (has n (xs ++ ys)) h)
+has_part n (x ∷ xs) ys h = ⊎_elim (λ (e : (n == x) ≡ true). inl (or_left (n == x) (is_among n xs) e))
+    (λ (t : is_among n (xs ++ ys) ≡ true). ⊎_elim (λ l. inl (or_right (n == x) (is_among n xs) l)) (λ r. inr r) (has_part n xs ys t))
+    (or_part (n == x) (is_among n (xs ++ ys)) h)
 
-pub one_number : (m n : ℕ) → has m (n ∷ []) ≡ true → m ≡ n
+pub one_number : (m n : ℕ) → is_among m (n ∷ []) ≡ true → m ≡ n
 one_number m n h = ⊎_elim (λ (e : m ≡ n). e) (λ (t : false ≡ true). absurd (true≢false (sym t))) (has-split m n [] h)
 
 -- those that pass a test
-filter-step : (test : ℕ → Bool) (n x : ℕ) (xs : List ℕ) (b : Bool) → test x ≡ b → (has n (filter test xs) ≡ true → (has n xs ≡ true) × (test n ≡ true))
-    → has n (cond b (x ∷ filter test xs) (filter test xs)) ≡ true → (has n (x ∷ xs) ≡ true) × (test n ≡ true)
+filter-step : (test : ℕ → Bool) (n x : ℕ) (xs : List ℕ) (b : Bool) → test x ≡ b → (is_among n (filter test xs) ≡ true → (is_among n xs ≡ true) × (test n ≡ true))
+    → is_among n (cond b (x ∷ filter test xs) (filter test xs)) ≡ true → (is_among n (x ∷ xs) ≡ true) × (test n ≡ true)
 filter-step test n x xs true e rest h = ⊎_elim
-    (λ (same : n ≡ x). (subst (λ (m : ℕ). has n (m ∷ xs) ≡ true) same (has-here n xs), ap test same ∙ e))
-    (λ (t : has n (filter test xs) ≡ true). let r = rest t in (has-more n x xs r.0, r.1))
+    (λ (same : n ≡ x). (subst (λ (m : ℕ). is_among n (m ∷ xs) ≡ true) same (has-here n xs), ap test same ∙ e))
+    (λ (t : is_among n (filter test xs) ≡ true). let r = rest t in (has-more n x xs r.0, r.1))
     (has-split n x (filter test xs) h)
 filter-step test n x xs false e rest h = let r = rest h in (has-more n x xs r.0, r.1)
 
-pub has-filter : (test : ℕ → Bool) (n : ℕ) (xs : List ℕ) → has n (filter test xs) ≡ true → (has n xs ≡ true) × (test n ≡ true)
+pub has-filter : (test : ℕ → Bool) (n : ℕ) (xs : List ℕ) → is_among n (filter test xs) ≡ true → (is_among n xs ≡ true) × (test n ≡ true)
 has-filter test n [] h = absurd (true≢false (sym h))
 has-filter test n (x ∷ xs) h = filter-step test n x xs (test x) refl (has-filter test n xs) h
 
-passes-step : (test : ℕ → Bool) (n x : ℕ) (xs : List ℕ) (b : Bool) → test x ≡ b → test n ≡ true → (has n xs ≡ true → has n (filter test xs) ≡ true)
-    → has n (x ∷ xs) ≡ true → has n (cond b (x ∷ filter test xs) (filter test xs)) ≡ true
+passes-step : (test : ℕ → Bool) (n x : ℕ) (xs : List ℕ) (b : Bool) → test x ≡ b → test n ≡ true → (is_among n xs ≡ true → is_among n (filter test xs) ≡ true)
+    → is_among n (x ∷ xs) ≡ true → is_among n (cond b (x ∷ filter test xs) (filter test xs)) ≡ true
 passes-step test n x xs true e passes rest h = ⊎_elim
-    (λ (same : n ≡ x). subst (λ (m : ℕ). has n (m ∷ filter test xs) ≡ true) same (has-here n (filter test xs)))
-    (λ (t : has n xs ≡ true). has-more n x (filter test xs) (rest t))
+    (λ (same : n ≡ x). subst (λ (m : ℕ). is_among n (m ∷ filter test xs) ≡ true) same (has-here n (filter test xs)))
+    (λ (t : is_among n xs ≡ true). has-more n x (filter test xs) (rest t))
     (has-split n x xs h)
 passes-step test n x xs false e passes rest h = ⊎_elim
     (λ (same : n ≡ x). absurd (not_both (test x) (sym (ap test same) ∙ passes) e))
-    (λ (t : has n xs ≡ true). rest t)
+    (λ (t : is_among n xs ≡ true). rest t)
     (has-split n x xs h)
 
-pub filter-has : (test : ℕ → Bool) (n : ℕ) (xs : List ℕ) → has n xs ≡ true → test n ≡ true → has n (filter test xs) ≡ true
-filter-has test n [] h passes = absurd (true≢false (sym h))
-filter-has test n (x ∷ xs) h passes = passes-step test n x xs (test x) refl passes (λ t. filter-has test n xs t passes) h
+pub filter-is_among : (test : ℕ → Bool) (n : ℕ) (xs : List ℕ) → is_among n xs ≡ true → test n ≡ true → is_among n (filter test xs) ≡ true
+filter-is_among test n [] h passes = absurd (true≢false (sym h))
+filter-is_among test n (x ∷ xs) h passes = passes-step test n x xs (test x) refl passes (λ t. filter-is_among test n xs t passes) h
 
 -- ---- ranges
 
-pub has_range : (n first count : ℕ) → has n (numbers_from first count) ≡ true → (first ≤ n) × (n < first + count)
+pub has_range : (n first count : ℕ) → is_among n (numbers_from first count) ≡ true → (first ≤ n) × (n < first + count)
 has_range n first zero h = absurd (true≢false (sym h))
 has_range n first (suc count) h = ⊎_elim (λ (is : n ≡ first). (omega arith, omega arith))
-    (λ (t : has n (numbers_from (suc first) count) ≡ true). let r = has_range n (suc first) count t in (omega arith, omega arith))
+    (λ (t : is_among n (numbers_from (suc first) count) ≡ true). let r = has_range n (suc first) count t in (omega arith, omega arith))
     (has-split n first (numbers_from (suc first) count) h)
 
-pub range_has : (n first count : ℕ) → first ≤ n → n < first + count → has n (numbers_from first count) ≡ true
+pub range_has : (n first count : ℕ) → first ≤ n → n < first + count → is_among n (numbers_from first count) ≡ true
 range_has n first zero low high = absurd (omega arith)
 range_has n first (suc count) low high = dite (ℕ_discrete n first)
-    (λ e. or_left (n == first) (has n (numbers_from (suc first) count)) (eq-eqb n first e))
-    (λ ne. or_right (n == first) (has n (numbers_from (suc first) count)) (range_has n (suc first) count (omega arith) (omega arith)))
+    (λ e. or_left (n == first) (is_among n (numbers_from (suc first) count)) (eq-eqb n first e))
+    (λ ne. or_right (n == first) (is_among n (numbers_from (suc first) count)) (range_has n (suc first) count (omega arith) (omega arith)))
 
 pub length-range : (first count : ℕ) → length (numbers_from first count) ≡ count
 length-range first zero = refl

@@ -5,7 +5,8 @@ use Rattle.std.proofs.lemmas.List.Elements.{All-nil, All-append, All-weaker}
 use native.Mathlib.Decide.{dec_le}
 use Rattle.c5_definitions.specs.WriteNumbers.{end_of, owner_of}
 use Rattle.c5_board.specs.declared.known.Look.{Look}
-use Rattle.c5_board.specs.Sets.{has, without, number_of, greater_of_each}
+use Rattle.c5_board.specs.Sets.{without, number_of, greater_of_each}
+use Rattle.c5_rows.specs.Numbers.{is_among}
 use Rattle.c5_board.specs.Boards.{Board, Pass, names}
 use Rattle.c5_board.specs.Parts.{owned_by, owned_by_others, joined}
 use Rattle.c5_board.specs.Passes.{IsLookOf, IsSound}
@@ -14,7 +15,7 @@ use Rattle.c5_board.specs.Cuts.{Holds, part_of, rest_of}
 use Rattle.c5_board.proofs.Facts.{Facts}
 use Rattle.c5_board.proofs.SetLemmas.{has_front, has_back, has_part, greater-length, greater-of}
 use Rattle.c5_board.proofs.SeatLemmas.{look_more}
-use Rattle.c5_board.proofs.PartSteps.{part-has, has-part, rest-has, has-rest, part-installed, rest-installed}
+use Rattle.c5_board.proofs.PartSteps.{part-is_among, has-part, rest-is_among, has-rest, part-installed, rest-installed}
 
 -- a pass with other roles, which knows the same
 abbrev reroled : Pass → List ℕ → List ℕ → Bool → Bool → ℕ → ℕ → List Look → Pass
@@ -33,8 +34,8 @@ reroled p roles installed snapshot scheduler written indexed looks = record {
 }
 
 record IsPart (p : Pass) (roles installed : List ℕ) : Type 0 where
-  held : (i : ℕ) → has i roles ≡ true → has i p.roles ≡ true
-  numbers : (w : ℕ) → has w installed ≡ true → (has w p.installed ≡ true) × (has (owner_of p.board.workers w) roles ≡ true)
+  held : (i : ℕ) → is_among i roles ≡ true → is_among i p.roles ≡ true
+  numbers : (w : ℕ) → is_among w installed ≡ true → (is_among w p.installed ≡ true) × (is_among (owner_of p.board.workers w) roles ≡ true)
 
 part_sound : (p : Pass) (roles installed : List ℕ) (snapshot scheduler : Bool) (written indexed : ℕ) (looks : List Look) → IsPart p roles installed
     → All (IsLookOf (names p.board) p.floors p.place p.scheduled) looks → IsSound p → IsSound (reroled p roles installed snapshot scheduler written indexed looks)
@@ -54,9 +55,9 @@ sound_part taken p is f =
     part_sound p (cond (taken.worker == 0) [] (taken.worker ∷ [])) (cond (taken.worker == 0) [] (owned_by p.board.workers taken.worker p.installed)) taken.snapshot taken.scheduler
     (cond taken.scheduler p.written 0) (cond taken.scheduler p.indexed 0) []
     (record {
-      held = λ i has_i. let q = part-has taken.worker i has_i in subst (λ (j : ℕ). has j p.roles ≡ true) (sym q.0) (is.worker q.1);
+      held = λ i has_i. let q = part-is_among taken.worker i has_i in subst (λ (j : ℕ). is_among j p.roles ≡ true) (sym q.0) (is.worker q.1);
       numbers = λ w has_w. let q = part-installed taken.worker p.board.workers w p.installed has_w in
-          (q.0, subst (λ (j : ℕ). has j (cond (taken.worker == 0) [] (taken.worker ∷ [])) ≡ true) (sym q.1) (has-part taken.worker q.2));
+          (q.0, subst (λ (j : ℕ). is_among j (cond (taken.worker == 0) [] (taken.worker ∷ [])) ≡ true) (sym q.1) (has-part taken.worker q.2));
     })
     (All-nil (IsLookOf (names p.board) p.floors p.place p.scheduled)) f
 
@@ -65,7 +66,7 @@ sound_rest taken p f =
     part_sound p (cond (taken.worker == 0) p.roles (without taken.worker p.roles)) (cond (taken.worker == 0) p.installed (owned_by_others p.board.workers taken.worker p.installed))
     (cond taken.snapshot false p.snapshot) (cond taken.scheduler false p.scheduler) (cond taken.scheduler 0 p.written) (cond taken.scheduler 0 p.indexed) p.looks
     (record {
-      held = λ i has_i. (rest-has taken.worker i p.roles has_i).0;
+      held = λ i has_i. (rest-is_among taken.worker i p.roles has_i).0;
       numbers = λ w has_w. let q = rest-installed taken.worker p.board.workers w p.installed has_w in
           (q.0, has-rest taken.worker (owner_of p.board.workers w) p.roles (f.installed w q.0).1 q.1);
     })
@@ -108,10 +109,10 @@ module _ (board : Board) (k : Facts board.log board.workers) (a b : Pass) (f : I
 
   pub sound_joined : IsSound (joined (on_board board a) (on_board board b))
   sound_joined = let same_count = f.count ∙ sym g.count in record {
-    workers = λ i h. ⊎_elim (λ (of_a : has i a.roles ≡ true). f.workers i of_a) (λ (of_b : has i b.roles ≡ true). g.workers i of_b) (has_part i a.roles b.roles h);
+    workers = λ i h. ⊎_elim (λ (of_a : is_among i a.roles ≡ true). f.workers i of_a) (λ (of_b : is_among i b.roles ≡ true). g.workers i of_b) (has_part i a.roles b.roles h);
     installed = λ w h. ⊎_elim
-        (λ (of_a : has w a.installed ≡ true). let p = f.installed w of_a in (p.0, has_front (owner_of board.workers w) a.roles b.roles p.1))
-        (λ (of_b : has w b.installed ≡ true). let p = g.installed w of_b in (p.0, has_back (owner_of board.workers w) a.roles b.roles p.1))
+        (λ (of_a : is_among w a.installed ≡ true). let p = f.installed w of_a in (p.0, has_front (owner_of board.workers w) a.roles b.roles p.1))
+        (λ (of_b : is_among w b.installed ≡ true). let p = g.installed w of_b in (p.0, has_back (owner_of board.workers w) a.roles b.roles p.1))
         (has_part w a.installed b.installed h);
     count = greater-length a.floors b.floors same_count ∙ f.count;
     floors = λ i is. let p = f.floors i is in let q = g.floors i is in let e = greater-of a.floors b.floors i same_count in let positive = p.0 in (

@@ -12,11 +12,12 @@ use Rattle.c5_definitions.specs.WriteNumbers.{names_in, end_of, owner_of, IsWrit
 use Rattle.c5_definitions.specs.RowIndex.{first_in_bucket, IsSlot}
 use Rattle.c5_frames.specs.Log.{Log}
 use Rattle.c5_board.specs.declared.known.Known.{Known}
-use Rattle.c5_board.specs.Sets.{has, number_of, with_number}
+use Rattle.c5_board.specs.Sets.{number_of, with_number}
+use Rattle.c5_rows.specs.Numbers.{is_among}
 use Rattle.c5_board.specs.Words.{buckets_in, record_word, progress_word, scheduled_word, visible_word, bucket_word, packed}
 use Rattle.c5_board.specs.Boards.{IsWorker, record_of, pass_of}
 use Rattle.c5_board.specs.Passes.{IsLookOf, IsHeadOf, IsSound, bucket_up_to}
-use Rattle.c5_board.specs.Rule.{Words, words_of, Holders, IsInstalled, IsFoundInstalled, HeadsFit, ProgressFits, RecordsFit, IndexFits, WordsFit}
+use Rattle.c5_board.specs.Rule.{BoardWords, board_words, Holders, IsInstalled, IsFoundInstalled, HeadsFit, ProgressFits, RecordsFit, IndexFits, WordsFit}
 use Rattle.c5_board.specs.Views.{with_floor, with_place}
 use Rattle.c5_board.specs.Tells.{Seated, Becomes, stores_progress, stores_visible, stores_record, stores_scheduled, stores_bucket}
 use Rattle.c5_board.proofs.Facts.{Facts}
@@ -36,32 +37,32 @@ module _ (me : Seated) (k : Facts me.0.log me.0.workers) where
 
   -- ---- heads and progress stay
 
-  pub heads_still : (x y : Words) → SameHeads log workers x y → HeadsFit log workers x → HeadsFit log workers y
+  pub heads_still : (x y : BoardWords) → SameHeads log workers x y → HeadsFit log workers x → HeadsFit log workers y
   heads_still x y same f = record {
     rows = λ r is. subst (IsHeadOf (names_in log.txns) r) (sym (same r is.write)) (f.rows r is);
     others = λ w is ne. same w is ∙ f.others w is ne;
   }
 
-  pub progress_still : (x y : Words) (i : ℕ) → SameHeads log workers x y → y.progress i ≡ x.progress i → ProgressFits log workers x i → ProgressFits log workers y i
+  pub progress_still : (x y : BoardWords) (i : ℕ) → SameHeads log workers x y → y.progress i ≡ x.progress i → ProgressFits log workers x i → ProgressFits log workers y i
   progress_still x y i same e f = let positive = f.positive in record {
     positive = omega arith;
     owned = ap (owner_of workers) e ∙ f.owned;
     below = λ w some_w below own. inst_same log workers k x y w same (f.below w some_w (omega arith) own);
   }
 
-  pub back : (x y : Words) → SameHeads log workers x y → SameHeads log workers y x
+  pub back : (x y : BoardWords) → SameHeads log workers x y → SameHeads log workers y x
   back x y same w is = sym (same w is)
 
   -- ---- the scheduler's stores
 
   -- heads, progress and the visible place stay, and the scheduled word grows
-  record Schedules (x y : Words) : Type 0 where
+  record Schedules (x y : BoardWords) : Type 0 where
     heads : SameHeads log workers x y
     steps : SameProgress log workers x y
     visible : y.visible ≡ x.visible
     grows : x.scheduled ≤ y.scheduled
 
-  scheduler_fits : (h : Holders) (x y : Words) (id top written indexed : ℕ) → Schedules x y → y.scheduled ≡ top → v.scheduler ≡ true → Seat log workers k h x id v
+  scheduler_fits : (h : Holders) (x y : BoardWords) (id top written indexed : ℕ) → Schedules x y → y.scheduled ≡ top → v.scheduler ≡ true → Seat log workers k h x id v
       → Seat log workers k (with_marks h written indexed) y id (record v { scheduled = top; written = written; indexed = indexed })
   scheduler_fits h x y id top written indexed c is_top role f =
       let grows = c.grows in
@@ -85,13 +86,13 @@ module _ (me : Seated) (k : Facts me.0.log me.0.workers) where
       }
 
   schedules : (s : St log workers k) (r : Rule log workers k s) (id i n top written indexed : ℕ) → get_elem? s.views id ≡ some v → v.scheduler ≡ true
-      → Schedules (words_in log workers k s) (words_of log workers (set s.words i n)) → (words_of log workers (set s.words i n)).scheduled ≡ top
-      → RecordsFit log workers written (words_of log workers (set s.words i n)) → IndexFits log workers indexed (words_of log workers (set s.words i n))
+      → Schedules (words_in log workers k s) (board_words log workers (set s.words i n)) → (board_words log workers (set s.words i n)).scheduled ≡ top
+      → RecordsFit log workers written (board_words log workers (set s.words i n)) → IndexFits log workers indexed (board_words log workers (set s.words i n))
       → Rule log workers k (stepped s i n id me.1 (record v { scheduled = top; written = written; indexed = indexed }) keeps)
       × ((table : TableId) → IsSound (pass_of table (record v { scheduled = top; written = written; indexed = indexed })))
   schedules s r id i n top written indexed at role c is_top records index =
-      let x : Words = words_in log workers k s in
-      let y : Words = words_of log workers (set s.words i n) in
+      let x : BoardWords = words_in log workers k s in
+      let y : BoardWords = board_words log workers (set s.words i n) in
       let f = r.each id v at in
       let w : Known = record v { scheduled = top; written = written; indexed = indexed } in
       let visible = c.visible in let grows = c.grows in
@@ -124,8 +125,8 @@ module _ (me : Seated) (k : Facts me.0.log me.0.workers) where
   pub stores_scheduled_step : (slots id w : ℕ) → v.scheduler ≡ true → w ≡ v.written → w ≡ v.scheduled + 1 → (IsFirstWrite (names_in log.txns) w → v.indexed ≡ w)
       → Allows (Rule log workers k) slots id me (scheduled_word log workers) (λ _. w) (λ _. stores_scheduled (step slots (scheduled_word log workers) w 0 none) me w)
   stores_scheduled_step slots id w role written next indexed s r _ at _ =
-      let x : Words = words_in log workers k s in
-      let y : Words = words_of log workers (set s.words (scheduled_word log workers) w) in
+      let x : BoardWords = words_in log workers k s in
+      let y : BoardWords = board_words log workers (set s.words (scheduled_word log workers) w) in
       let c = scheduled_set log workers s.words w r.count in
       let f = r.each id v at in
       let g = f.scheduler role in
@@ -157,8 +158,8 @@ module _ (me : Seated) (k : Facts me.0.log me.0.workers) where
       (λ _. stores_record (step slots (record_word log w) (packed (record_of (names_in log.txns) w)) 0 none) me (packed (record_of (names_in log.txns) w)))
   stores_record_step slots id w role ready next is s r _ at _ =
       let n : ℕ = packed (record_of (names_in log.txns) w) in
-      let x : Words = words_in log workers k s in
-      let y : Words = words_of log workers (set s.words (record_word log w) n) in
+      let x : BoardWords = words_in log workers k s in
+      let y : BoardWords = board_words log workers (set s.words (record_word log w) n) in
       let c = link_set log workers s.words n r.count w is in
       let f = r.each id v at in
       let g = f.scheduler role in
@@ -201,8 +202,8 @@ module _ (me : Seated) (k : Facts me.0.log me.0.workers) where
   pub stores_bucket_step : (slots id j w : ℕ) → v.scheduler ≡ true → v.written ≡ v.scheduled → w ≡ v.scheduled + 1 → IsFirstWrite (names_in log.txns) w → v.indexed < w → IsSlot (names_in log.txns) w j
       → Allows (Rule log workers k) slots id me (bucket_word log workers j) (λ _. w) (λ _. stores_bucket (step slots (bucket_word log workers j) w 0 none) me w)
   stores_bucket_step slots id j w role ready next is above slot s r _ at _ =
-      let x : Words = words_in log workers k s in
-      let y : Words = words_of log workers (set s.words (bucket_word log workers j) w) in
+      let x : BoardWords = words_in log workers k s in
+      let y : BoardWords = board_words log workers (set s.words (bucket_word log workers j) w) in
       let c = bucket_set log workers s.words w r.count j slot.within in
       let f = r.each id v at in
       let g = f.scheduler role in
@@ -247,22 +248,22 @@ module _ (me : Seated) (k : Facts me.0.log me.0.workers) where
 
   -- ---- progress
 
-  pub stores_progress_step : (slots id i n : ℕ) → has i v.roles ≡ true → IsWorker workers i → 1 ≤ n → owner_of workers n ≡ i → has n v.installed ≡ false
-      → ((w : ℕ) → 1 ≤ w → w < n → owner_of workers w ≡ i → has w v.installed ≡ true)
+  pub stores_progress_step : (slots id i n : ℕ) → is_among i v.roles ≡ true → IsWorker workers i → 1 ≤ n → owner_of workers n ≡ i → is_among n v.installed ≡ false
+      → ((w : ℕ) → 1 ≤ w → w < n → owner_of workers w ≡ i → is_among w v.installed ≡ true)
       → Allows (Rule log workers k) slots id me (progress_word log i) (λ _. n) (λ _. stores_progress (step slots (progress_word log i) n 0 none) me n)
   stores_progress_step slots id i n role is positive owned not_installed least s r _ at _ =
-      let x : Words = words_in log workers k s in
-      let y : Words = words_of log workers (set s.words (progress_word log i) n) in
+      let x : BoardWords = words_in log workers k s in
+      let y : BoardWords = board_words log workers (set s.words (progress_word log i) n) in
       let c = progress_set log workers s.words n r.count i is in
       let f = r.each id v at in
       let here = c.here in
       let p = r.words.progress i is in
       let own_floor = f.own_floors i role in
       let w : Known = with_floor v i n in
-      let role_n : has (owner_of workers n) v.roles ≡ true = ap (λ (j : ℕ). has j v.roles) owned ∙ role in
+      let role_n : is_among (owner_of workers n) v.roles ≡ true = ap (λ (j : ℕ). is_among j v.roles) owned ∙ role in
       let grown : x.progress i ≤ n = elim (dec_le (x.progress i) n) [
         | yes le ↦ le
-        | no gt ↦ absurd (not_both (has n v.installed) (f.all_installed n (p.below n positive (lt_of_not-le gt) owned) role_n) not_installed)
+        | no gt ↦ absurd (not_both (is_among n v.installed) (f.all_installed n (p.below n positive (lt_of_not-le gt) owned) role_n) not_installed)
       ] in
       let grows_by : (q : ℕ) → IsWorker workers q → x.progress q ≤ y.progress q = λ q is_q. dite (ℕ_discrete q i)
       (λ same. let a = ap x.progress same in let b = ap y.progress same in omega arith)
@@ -350,8 +351,8 @@ module _ (me : Seated) (k : Facts me.0.log me.0.workers) where
   pub stores_visible_step : (slots id p : ℕ) → v.snapshot ≡ true → p ≤ length log.txns → ((i : ℕ) → IsWorker workers i → end_of log.txns p < number_of v.floors i) → v.place ≤ p
       → Allows (Rule log workers k) slots id me (visible_word log workers) (λ _. p) (λ _. stores_visible (step slots (visible_word log workers) p 0 none) me p)
   stores_visible_step slots id p role place below grows_place s r _ at _ =
-      let x : Words = words_in log workers k s in
-      let y : Words = words_of log workers (set s.words (visible_word log workers) p) in
+      let x : BoardWords = words_in log workers k s in
+      let y : BoardWords = board_words log workers (set s.words (visible_word log workers) p) in
       let c = visible_set log workers s.words p r.count in
       let f = r.each id v at in
       let g = f.snapshot role in

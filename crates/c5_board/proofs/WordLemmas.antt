@@ -4,26 +4,26 @@ use Rattle.c5_definitions.specs.WriteNumbers.{names_in, IsWrite}
 use Rattle.c5_frames.specs.Log.{Log}
 use Rattle.c5_board.specs.Words.{buckets_in, head_word, record_word, progress_word, scheduled_word, visible_word, bucket_word, word_count}
 use Rattle.c5_board.specs.Boards.{IsWorker}
-use Rattle.c5_board.specs.Rule.{Words, words_of}
+use Rattle.c5_board.specs.Rule.{BoardWords, board_words}
 
 module _ (log : Log) (workers : ℕ) where
   -- ---- which words are the same
 
-  abbrev pub SameHeads : Words → Words → Type 0
+  abbrev pub SameHeads : BoardWords → BoardWords → Type 0
   SameHeads x y = (w : ℕ) → IsWrite (names_in log.txns) w → y.head w ≡ x.head w
 
-  abbrev pub SameLinks : Words → Words → Type 0
+  abbrev pub SameLinks : BoardWords → BoardWords → Type 0
   SameLinks x y = (w : ℕ) → IsWrite (names_in log.txns) w → y.link w ≡ x.link w
 
-  abbrev pub SameProgress : Words → Words → Type 0
+  abbrev pub SameProgress : BoardWords → BoardWords → Type 0
   SameProgress x y = (i : ℕ) → IsWorker workers i → y.progress i ≡ x.progress i
 
-  abbrev pub SameBuckets : Words → Words → Type 0
+  abbrev pub SameBuckets : BoardWords → BoardWords → Type 0
   SameBuckets x y = (j : ℕ) → j < buckets_in log → y.bucket j ≡ x.bucket j
 
   -- ---- one word has become n
 
-  pub record HeadSet (x y : Words) (w n : ℕ) : Type 0 where
+  pub record HeadSet (x y : BoardWords) (w n : ℕ) : Type 0 where
     pub here : y.head w ≡ n
     pub else : (v : ℕ) → IsWrite (names_in log.txns) v → v ≢ w → y.head v ≡ x.head v
     pub links : SameLinks x y
@@ -32,7 +32,7 @@ module _ (log : Log) (workers : ℕ) where
     pub visible : y.visible ≡ x.visible
     pub buckets : SameBuckets x y
 
-  pub record LinkSet (x y : Words) (w n : ℕ) : Type 0 where
+  pub record LinkSet (x y : BoardWords) (w n : ℕ) : Type 0 where
     pub here : y.link w ≡ n
     pub else : (v : ℕ) → IsWrite (names_in log.txns) v → v ≢ w → y.link v ≡ x.link v
     pub heads : SameHeads x y
@@ -41,7 +41,7 @@ module _ (log : Log) (workers : ℕ) where
     pub visible : y.visible ≡ x.visible
     pub buckets : SameBuckets x y
 
-  pub record ProgressSet (x y : Words) (i n : ℕ) : Type 0 where
+  pub record ProgressSet (x y : BoardWords) (i n : ℕ) : Type 0 where
     pub here : y.progress i ≡ n
     pub else : (k : ℕ) → IsWorker workers k → k ≢ i → y.progress k ≡ x.progress k
     pub heads : SameHeads x y
@@ -50,7 +50,7 @@ module _ (log : Log) (workers : ℕ) where
     pub visible : y.visible ≡ x.visible
     pub buckets : SameBuckets x y
 
-  pub record ScheduledSet (x y : Words) (n : ℕ) : Type 0 where
+  pub record ScheduledSet (x y : BoardWords) (n : ℕ) : Type 0 where
     pub here : y.scheduled ≡ n
     pub heads : SameHeads x y
     pub links : SameLinks x y
@@ -58,7 +58,7 @@ module _ (log : Log) (workers : ℕ) where
     pub visible : y.visible ≡ x.visible
     pub buckets : SameBuckets x y
 
-  pub record VisibleSet (x y : Words) (n : ℕ) : Type 0 where
+  pub record VisibleSet (x y : BoardWords) (n : ℕ) : Type 0 where
     pub here : y.visible ≡ n
     pub heads : SameHeads x y
     pub links : SameLinks x y
@@ -66,7 +66,7 @@ module _ (log : Log) (workers : ℕ) where
     pub scheduled : y.scheduled ≡ x.scheduled
     pub buckets : SameBuckets x y
 
-  pub record BucketSet (x y : Words) (j n : ℕ) : Type 0 where
+  pub record BucketSet (x y : BoardWords) (j n : ℕ) : Type 0 where
     pub here : y.bucket j ≡ n
     pub else : (k : ℕ) → k < buckets_in log → k ≢ j → y.bucket k ≡ x.bucket k
     pub heads : SameHeads x y
@@ -78,13 +78,13 @@ module _ (log : Log) (workers : ℕ) where
   -- ---- each store does that
 
   module _ (words : List ℕ) (n : ℕ) (count : length words ≡ word_count log workers) where
-    abbrev x : Words
-    x = words_of log workers words
+    abbrev x : BoardWords
+    x = board_words log workers words
 
-    abbrev set_at : ℕ → Words
-    set_at i = words_of log workers (set words i n)
+    abbrev set_at : ℕ → BoardWords
+    set_at i = board_words log workers (set words i n)
 
-    pub head_set : (w : ℕ) → IsWrite (names_in log.txns) w → HeadSet (words_of log workers words) (words_of log workers (set words (head_word w) n)) w n
+    pub head_set : (w : ℕ) → IsWrite (names_in log.txns) w → HeadSet (board_words log workers words) (board_words log workers (set words (head_word w) n)) w n
     head_set w is = let some = is.positive in let within = is.within in record {
       here = get_or-set_same words (head_word w) n 0 (omega arith);
       else = λ v is_v ne. let p = is_v.positive in get_or-set_other words (head_word w) (head_word v) n 0 (λ e. ne (omega arith));
@@ -95,7 +95,7 @@ module _ (log : Log) (workers : ℕ) where
       buckets = λ j below. get_or-set_other words (head_word w) (bucket_word log workers j) n 0 (λ e. omega arith);
     }
 
-    pub link_set : (w : ℕ) → IsWrite (names_in log.txns) w → LinkSet (words_of log workers words) (words_of log workers (set words (record_word log w) n)) w n
+    pub link_set : (w : ℕ) → IsWrite (names_in log.txns) w → LinkSet (board_words log workers words) (board_words log workers (set words (record_word log w) n)) w n
     link_set w is = let some = is.positive in let within = is.within in record {
       here = get_or-set_same words (record_word log w) n 0 (omega arith);
       else = λ v is_v ne. let p = is_v.positive in get_or-set_other words (record_word log w) (record_word log v) n 0 (λ e. ne (omega arith));
@@ -106,7 +106,7 @@ module _ (log : Log) (workers : ℕ) where
       buckets = λ j below. get_or-set_other words (record_word log w) (bucket_word log workers j) n 0 (λ e. omega arith);
     }
 
-    pub progress_set : (i : ℕ) → IsWorker workers i → ProgressSet (words_of log workers words) (words_of log workers (set words (progress_word log i) n)) i n
+    pub progress_set : (i : ℕ) → IsWorker workers i → ProgressSet (board_words log workers words) (board_words log workers (set words (progress_word log i) n)) i n
     progress_set i is = let some = is.0 in let within = is.1 in record {
       here = get_or-set_same words (progress_word log i) n 0 (omega arith);
       else = λ k is_k ne. let p = is_k.0 in get_or-set_other words (progress_word log i) (progress_word log k) n 0 (λ e. ne (omega arith));
@@ -117,7 +117,7 @@ module _ (log : Log) (workers : ℕ) where
       buckets = λ j below. get_or-set_other words (progress_word log i) (bucket_word log workers j) n 0 (λ e. omega arith);
     }
 
-    pub scheduled_set : ScheduledSet (words_of log workers words) (words_of log workers (set words (scheduled_word log workers) n)) n
+    pub scheduled_set : ScheduledSet (board_words log workers words) (board_words log workers (set words (scheduled_word log workers) n)) n
     scheduled_set = record {
       here = get_or-set_same words (scheduled_word log workers) n 0 (omega arith);
       heads = λ v is_v. let p = is_v.positive in let q = is_v.within in get_or-set_other words (scheduled_word log workers) (head_word v) n 0 (λ e. omega arith);
@@ -127,7 +127,7 @@ module _ (log : Log) (workers : ℕ) where
       buckets = λ j below. get_or-set_other words (scheduled_word log workers) (bucket_word log workers j) n 0 (λ e. omega arith);
     }
 
-    pub visible_set : VisibleSet (words_of log workers words) (words_of log workers (set words (visible_word log workers) n)) n
+    pub visible_set : VisibleSet (board_words log workers words) (board_words log workers (set words (visible_word log workers) n)) n
     visible_set = record {
       here = get_or-set_same words (visible_word log workers) n 0 (omega arith);
       heads = λ v is_v. let p = is_v.positive in let q = is_v.within in get_or-set_other words (visible_word log workers) (head_word v) n 0 (λ e. omega arith);
@@ -137,7 +137,7 @@ module _ (log : Log) (workers : ℕ) where
       buckets = λ j below. get_or-set_other words (visible_word log workers) (bucket_word log workers j) n 0 (λ e. omega arith);
     }
 
-    pub bucket_set : (j : ℕ) → j < buckets_in log → BucketSet (words_of log workers words) (words_of log workers (set words (bucket_word log workers j) n)) j n
+    pub bucket_set : (j : ℕ) → j < buckets_in log → BucketSet (board_words log workers words) (board_words log workers (set words (bucket_word log workers j) n)) j n
     bucket_set j within = record {
       here = get_or-set_same words (bucket_word log workers j) n 0 (omega arith);
       else = λ k below ne. get_or-set_other words (bucket_word log workers j) (bucket_word log workers k) n 0 (λ e. ne (omega arith));

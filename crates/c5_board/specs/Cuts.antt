@@ -1,13 +1,14 @@
 -- The parts of a split, by what the second part takes.
 use Rattle.std.specs.Prelude.{◌≡◌, ◌≢◌, ◌==◌, true, false, [], ◌∷◌, if◌then◌else◌}
-use Rattle.c5_board.specs.Sets.{has, without}
+use Rattle.c5_board.specs.Sets.{without}
+use Rattle.c5_rows.specs.Numbers.{is_among}
 use Rattle.c5_board.specs.Boards.{Pass}
 use Rattle.c5_board.specs.Parts.{owned_by, owned_by_others, reader_part}
 use Rattle.c5_board.specs.Views.{Taken}
 
 -- the pass holds what is taken
 pub record Holds (p : Pass) (taken : Taken) : Type 0 where
-  pub worker : taken.worker ≢ 0 → has taken.worker p.roles ≡ true
+  pub worker : taken.worker ≢ 0 → is_among taken.worker p.roles ≡ true
   pub snapshot : taken.snapshot ≡ true → p.snapshot ≡ true
   pub scheduler : taken.scheduler ≡ true → p.scheduler ≡ true
 

@@ -4,17 +4,22 @@ use Rattle.std.specs.Prelude.{◌≡◌, ◌≢◌, ◌≤◌, ◌<◌, ◌+◌,
 use mathlib.Core.Option.{some}
 use lib.ListN.{get_elem?}
 use Rattle.atomic_table.specs.Table.{State}
-use Rattle.c5_definitions.specs.WriteNumbers.{names_in, row_of, end_of, owner_of, IsWrite, IsFirstWrite}
+use Rattle.c5_definitions.specs.WriteNumbers.{names_in, row_of, end_of, owner_of, IsWrite}
+use Rattle.c5_definitions.specs.WriteNumbers.{IsFirstWrite}
 use Rattle.c5_frames.specs.Log.{Log}
 use Rattle.c5_plan.specs.Sizes.{IsPlanned}
 use Rattle.c5_board.specs.declared.known.Known.{Known}
 use Rattle.c5_board.specs.declared.known.Look.{Look}
-use Rattle.c5_board.specs.declared.known.Look.TheVariants.{LoadHead, ExchangeHead, LoadProgress, LoadVisible, LoadRecord, LoadScheduled, LoadBucket}
-use Rattle.c5_board.specs.Sets.{has, number_of}
+use Rattle.c5_board.specs.declared.known.Look.TheVariants.{LoadHead, ExchangeHead, LoadProgress}
+use Rattle.c5_board.specs.declared.known.Look.TheVariants.{LoadVisible, LoadRecord, LoadScheduled}
+use Rattle.c5_board.specs.declared.known.Look.TheVariants.{LoadBucket}
+use Rattle.c5_board.specs.Sets.{number_of}
+use Rattle.c5_rows.specs.Numbers.{is_among}
 use Rattle.c5_board.specs.Words.{writes_in, buckets_in, packed}
 use Rattle.c5_board.specs.Boards.{record_of, IsWorker}
 use Rattle.c5_board.specs.Passes.{IsHeadOf, IsLookOf, bucket_up_to}
-use Rattle.c5_board.specs.Rule.{Words, words_of, IsKept}
+use Rattle.c5_board.specs.Rule.{BoardWords, board_words, IsKept}
+use Rattle.c5_rows.specs.Sizes.{max_workers}
 
 abbrev pub Boarded : Type 0
 Boarded = State (Unit {0}) Known
@@ -33,22 +38,22 @@ pub record IsHeldByOne (s : Boarded) (role : Known → Bool) : Type 0 where
 
 -- w is among the installed numbers of some view
 abbrev pub IsDone : Boarded → ℕ → Type 0
-IsDone s w = (seat : ℕ) × (v : Known) × HasView s seat v × (has w v.installed ≡ true)
+IsDone s w = (seat : ℕ) × (v : Known) × HasView s seat v × (is_among w v.installed ≡ true)
 
 module _ (log : Log) (workers : ℕ) (s : Boarded) where
-  abbrev pub the_words : Words
-  the_words = words_of log workers s.words
+  abbrev pub the_words : BoardWords
+  the_words = board_words log workers s.words
 
   -- 1. each role is held by exactly one view, and installed numbers are writes that the view's
   -- roles own, each installed once
   pub record RolesAreHeld : Type 0 where
-    pub worker : (i : ℕ) → IsWorker workers i → IsHeldByOne s (λ v. has i v.roles)
+    pub worker : (i : ℕ) → IsWorker workers i → IsHeldByOne s (λ v. is_among i v.roles)
     pub snapshot : IsHeldByOne s (λ v. v.snapshot)
     pub scheduler : IsHeldByOne s (λ v. v.scheduler)
-    pub owned : (seat : ℕ) (v : Known) (w : ℕ) → HasView s seat v → has w v.installed ≡ true
-        → IsWrite (names_in log.txns) w × (has (owner_of workers w) v.roles ≡ true)
+    pub owned : (seat : ℕ) (v : Known) (w : ℕ) → HasView s seat v → is_among w v.installed ≡ true
+        → IsWrite (names_in log.txns) w × (is_among (owner_of workers w) v.roles ≡ true)
     pub once : (a b : ℕ) (v u : Known) (w : ℕ) → HasView s a v → HasView s b u
-        → has w v.installed ≡ true → has w u.installed ≡ true → a ≡ b
+        → is_among w v.installed ≡ true → is_among w u.installed ≡ true → a ≡ b
 
   -- 2. a row's head is 0 or a number of the row, whose numbers up to it are the installed ones; all
   -- other heads are 0
@@ -64,7 +69,7 @@ module _ (log : Log) (workers : ℕ) (s : Boarded) where
   -- nothing is missing
   pub record ProgressIsMade : Type 0 where
     pub owned : (i : ℕ) → IsWorker workers i → owner_of workers (the_words.progress i) ≡ i
-    pub floor : (seat : ℕ) (v : Known) (i : ℕ) → HasView s seat v → has i v.roles ≡ true
+    pub floor : (seat : ℕ) (v : Known) (i : ℕ) → HasView s seat v → is_among i v.roles ≡ true
         → the_words.progress i ≡ number_of v.floors i
     pub below : (i w : ℕ) → IsWorker workers i → 1 ≤ w → w < the_words.progress i
         → owner_of workers w ≡ i → IsDone s w
@@ -136,5 +141,5 @@ module _ (log : Log) (workers : ℕ) (s : Boarded) where
     pub all_visible : (w : ℕ) → 1 ≤ w → w ≤ end_of log.txns the_words.visible → IsDone s w
 
 abbrev pub BoardLaw : Type 0
-BoardLaw = (log : Log) (workers : ℕ) → IsPlanned log → IsWorker 16 workers → (s : Boarded)
+BoardLaw = (log : Log) (workers : ℕ) → IsPlanned log → IsWorker max_workers workers → (s : Boarded)
     → IsKept log workers s → IsLawful log workers s

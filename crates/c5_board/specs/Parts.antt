@@ -1,5 +1,6 @@
 -- What the parts of a split pass show, and what two joined passes show.
-use Rattle.std.specs.Prelude.{◌==◌, ◌++◌, ℕ, max, true, false, not, ◌||◌, List, [], ◌∷◌, if◌then◌else◌}
+use Rattle.std.specs.Prelude.{◌==◌, ◌++◌, ℕ, max, true, false, not, ◌||◌, List, [], ◌∷◌}
+use Rattle.std.specs.Prelude.{if◌then◌else◌}
 use Rattle.std.specs.List.{filter}
 use Rattle.c5_definitions.specs.WriteNumbers.{owner_of}
 use Rattle.c5_board.specs.Sets.{without, greater_of_each}

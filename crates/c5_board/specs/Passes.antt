@@ -1,11 +1,15 @@
 -- What is true of every pass, and what a pass knows of the heads that it finds.
-use Rattle.std.specs.Prelude.{◌≡◌, ◌≢◌, ◌≤◌, ◌<◌, ℕ, true, false, List, length, nat_le, All, if◌then◌else◌}
+use Rattle.std.specs.Prelude.{◌≡◌, ◌≢◌, ◌≤◌, ◌<◌, ℕ, true, false, List, length, nat_le, All}
+use Rattle.std.specs.Prelude.{if◌then◌else◌}
 use Rattle.c5_rows.specs.declared.writes.RowName.{RowName}
 use Rattle.c5_definitions.specs.WriteNumbers.{row_of, end_of, owner_of, IsWrite}
 use Rattle.c5_definitions.specs.RowIndex.{first_in_bucket}
 use Rattle.c5_board.specs.declared.known.Look.{Look}
-use Rattle.c5_board.specs.declared.known.Look.TheVariants.{LoadHead, ExchangeHead, LoadProgress, LoadVisible, LoadRecord, LoadScheduled, LoadBucket}
-use Rattle.c5_board.specs.Sets.{has, number_of}
+use Rattle.c5_board.specs.declared.known.Look.TheVariants.{LoadHead, ExchangeHead, LoadProgress}
+use Rattle.c5_board.specs.declared.known.Look.TheVariants.{LoadVisible, LoadRecord, LoadScheduled}
+use Rattle.c5_board.specs.declared.known.Look.TheVariants.{LoadBucket}
+use Rattle.c5_board.specs.Sets.{number_of}
+use Rattle.c5_rows.specs.Numbers.{is_among}
 use Rattle.c5_board.specs.Boards.{Pass, names, write_count, record_of, IsWorker}
 
 -- the end of a place of the board's log
@@ -33,7 +37,8 @@ bucket_up_to names indexed j = if nat_le (first_in_bucket names j) indexed
 abbrev pub IsLookOf : List RowName → List ℕ → ℕ → ℕ → Look → Type 0
 IsLookOf names floors place scheduled (LoadHead row found) = IsHeadOf names row found
     × (found ≤ scheduled)
-IsLookOf names floors place scheduled (ExchangeHead w found) = IsHeadOf names (row_of names w) found × (found ≤ scheduled)
+IsLookOf names floors place scheduled (ExchangeHead w found) = IsHeadOf names (row_of names w) found
+    × (found ≤ scheduled)
 IsLookOf names floors place scheduled (LoadProgress i found) = found ≤ number_of floors i
 IsLookOf names floors place scheduled (LoadVisible found) = found ≤ place
 IsLookOf names floors place scheduled (LoadRecord w found) = found ≡ record_of names w
@@ -43,9 +48,9 @@ IsLookOf names floors place scheduled (LoadBucket j found) = found ≢ 0
 
 -- what is true of every pass
 pub record IsSound (p : Pass) : Type 0 where
-  pub workers : (i : ℕ) → has i p.roles ≡ true → IsWorker p.board.workers i
-  pub installed : (w : ℕ) → has w p.installed ≡ true → IsWrite (names p.board) w
-      × (has (owner_in p w) p.roles ≡ true)
+  pub workers : (i : ℕ) → is_among i p.roles ≡ true → IsWorker p.board.workers i
+  pub installed : (w : ℕ) → is_among w p.installed ≡ true → IsWrite (names p.board) w
+      × (is_among (owner_in p w) p.roles ≡ true)
   pub count : length p.floors ≡ p.board.workers
   pub floors : (i : ℕ) → IsWorker p.board.workers i → (1 ≤ floor_of p i)
       × (owner_in p (floor_of p i) ≡ i)
@@ -58,8 +63,8 @@ pub record IsSound (p : Pass) : Type 0 where
 pub record IsOutstanding (p : Pass) (i x : ℕ) : Type 0 where
   pub positive : 1 ≤ x
   pub owned : owner_in p x ≡ i
-  pub not_installed : has x p.installed ≡ false
-  pub least : (w : ℕ) → 1 ≤ w → w < x → owner_in p w ≡ i → has w p.installed ≡ true
+  pub not_installed : is_among x p.installed ≡ false
+  pub least : (w : ℕ) → 1 ≤ w → w < x → owner_in p w ≡ i → is_among w p.installed ≡ true
 
 -- what a look says of the head of a row: it has reached this number
 abbrev pub IsReached : List RowName → ℕ → ℕ → Look → Type 0
@@ -76,11 +81,11 @@ IsReached names row head (LoadBucket j found) = Unit {0}
 -- the pass has installed each number of the row up to the head whose owner's role it holds
 pub record CoversRow (p : Pass) (row head : ℕ) : Type 0 where
   pub installed : (w : ℕ) → IsWrite (names p.board) w → row_of (names p.board) w ≡ row
-      → has w p.installed ≡ true → w ≤ head
+      → is_among w p.installed ≡ true → w ≤ head
   pub floors : (w : ℕ) → IsWrite (names p.board) w → row_of (names p.board) w ≡ row
       → w < floor_of p (owner_in p w) → w ≤ head
   pub place : (w : ℕ) → IsWrite (names p.board) w → row_of (names p.board) w ≡ row
       → w ≤ end_in p p.place → w ≤ head
   pub heads : All (IsReached (names p.board) row head) p.looks
   pub own : (w : ℕ) → IsWrite (names p.board) w → row_of (names p.board) w ≡ row → w ≤ head
-      → has (owner_in p w) p.roles ≡ true → has w p.installed ≡ true
+      → is_among (owner_in p w) p.roles ≡ true → is_among w p.installed ≡ true

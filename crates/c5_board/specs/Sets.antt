@@ -2,19 +2,11 @@
 use Prim.Native.Nat.{zero, suc}
 use Rattle.std.specs.Prelude.{ℕ, ◌-◌, ◌==◌, max, Bool, not, List, [], ◌∷◌, slice_index, slice_set}
 use Rattle.std.specs.List.{list_any, filter}
-
--- whether n is among the numbers
-abbrev pub has : ℕ → List ℕ → Bool
-has n numbers = list_any (λ m. n == m) numbers
+use Rattle.c5_rows.specs.Numbers.{is_among, numbers_from}
 
 -- the numbers but for n
 abbrev pub without : ℕ → List ℕ → List ℕ
 without n numbers = filter (λ m. not (n == m)) numbers
-
--- so many numbers, ascending from the first one
-abbrev pub numbers_from : ℕ → ℕ → List ℕ
-numbers_from first zero = []
-numbers_from first (suc n) = first ∷ numbers_from (suc first) n
 
 -- the number of worker i; workers are numbered from 1
 abbrev pub number_of : List ℕ → ℕ → ℕ

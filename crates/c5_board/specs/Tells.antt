@@ -3,12 +3,17 @@ use Rattle.std.specs.Prelude.{◌≡◌, ◌≢◌, ◌≤◌, ◌<◌, ℕ, tru
 use Rattle.atomic_table.specs.Seated.{TableId}
 use Rattle.atomic_table.specs.Table.{Me, Step}
 use Rattle.c5_rows.specs.declared.writes.RowName.{RowName}
-use Rattle.c5_definitions.specs.WriteNumbers.{names_in, row_of, predecessor_of, end_of, IsWrite, IsFirstWrite}
+use Rattle.c5_definitions.specs.WriteNumbers.{names_in, row_of, predecessor_of, end_of, IsWrite}
+use Rattle.c5_definitions.specs.WriteNumbers.{IsFirstWrite}
 use Rattle.c5_definitions.specs.RowIndex.{first_in_bucket}
 use Rattle.c5_board.specs.declared.known.Known.{Known}
-use Rattle.c5_board.specs.declared.known.Look.TheVariants.{LoadHead, ExchangeHead, LoadProgress, LoadVisible, LoadRecord, LoadScheduled, LoadBucket}
-use Rattle.c5_board.specs.Sets.{has, number_of}
-use Rattle.c5_board.specs.Words.{writes_in, buckets_in, head_word, record_word, progress_word, bucket_word, packed}
+use Rattle.c5_board.specs.declared.known.Look.TheVariants.{LoadHead, ExchangeHead, LoadProgress}
+use Rattle.c5_board.specs.declared.known.Look.TheVariants.{LoadVisible, LoadRecord, LoadScheduled}
+use Rattle.c5_board.specs.declared.known.Look.TheVariants.{LoadBucket}
+use Rattle.c5_board.specs.Sets.{number_of}
+use Rattle.c5_rows.specs.Numbers.{is_among}
+use Rattle.c5_board.specs.Words.{writes_in, buckets_in, head_word, record_word, progress_word}
+use Rattle.c5_board.specs.Words.{bucket_word, packed}
 use Rattle.c5_board.specs.Boards.{record_of, IsWorker, pass_of}
 use Rattle.c5_board.specs.Passes.{IsHeadOf, IsSound, CoversRow, bucket_up_to}
 use Rattle.c5_board.specs.Views.{looked, with_installed, with_look, with_floor, with_place}
@@ -49,7 +54,7 @@ abbrev pub loads_progress : Step (Unit {0}) → Seated → ℕ → Seated → Ty
 loads_progress st m n m' = (i : ℕ) → IsWorker m.0.workers i → st.word ≡ progress_word m.0.log i
     → Becomes m m' (with_look (with_floor m.0 i n) (LoadProgress i n))
     × (number_of m.0.floors i ≤ n) × (1 ≤ n)
-    × (has i m.0.roles ≡ true → n ≡ number_of m.0.floors i)
+    × (is_among i m.0.roles ≡ true → n ≡ number_of m.0.floors i)
     × (m.0.snapshot ≡ true → end_of m.0.log.txns m.0.place < n)
 
 abbrev pub stores_visible : Step (Unit {0}) → Seated → ℕ → Seated → Type 0

@@ -4,7 +4,8 @@ use Rattle.c5_definitions.specs.WriteNumbers.{end_of}
 use Rattle.c5_frames.specs.Log.{Log}
 use Rattle.c5_board.specs.declared.known.Known.{Known}
 use Rattle.c5_board.specs.declared.known.Look.{Look}
-use Rattle.c5_board.specs.Sets.{numbers_from, without, with_number, greater_of_each}
+use Rattle.c5_board.specs.Sets.{without, with_number, greater_of_each}
+use Rattle.c5_rows.specs.Numbers.{numbers_from}
 use Rattle.c5_board.specs.Parts.{owned_by, owned_by_others}
 
 -- the first view: all roles, and nothing is done

@@ -36,7 +36,10 @@ bucket_word log workers j = writes_in log + writes_in log + workers + 2 + j
 abbrev pub word_count : Log → ℕ → ℕ
 word_count log workers = writes_in log + writes_in log + workers + 2 + buckets_in log
 
--- a record as one number: 20 bits for the predecessor, the row above them, and one more, so that it
--- isn't 0
+-- a predecessor has 20 bits of a record's word
+abbrev pub predecessors : ℕ
+predecessors = 1048576
+
+-- a record as one number: the predecessor, the row above it, and one more, so that it isn't 0
 abbrev pub packed : Record → ℕ
-packed link = link.row * 1048576 + link.predecessor + 1
+packed link = link.row * predecessors + link.predecessor + 1

@@ -7,9 +7,6 @@ use c5_plan::Plan;
 use std::alloc::Global;
 use std::marker::Model;
 
-/// The greatest number of workers: each has a progress word, and the snapshot reads all of them.
-pub const MAX_WORKERS: u32 = 16;
-
 /// The words that the scheduler, the workers, the snapshot and the readers of a log share.
 #[derive(Drop)]
 pub struct Board<'p> {

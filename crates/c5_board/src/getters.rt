@@ -24,7 +24,7 @@ impl<'p> Board<'p> {
     pub fn workers(&self) -> u32
         ensures value { result ≡ self.now.workers }
         ensures some { 1 ≤ result }
-        ensures at_most_sixteen { result ≤ 16 }
+        ensures most { result ≤ max_workers }
     {
         self.workers
     }
@@ -32,7 +32,7 @@ impl<'p> Board<'p> {
     /// The number of writes of the log.
     pub fn writes(&self) -> u32
         ensures value { result ≡ write_count self.now }
-        ensures few { result ≤ 262144 }
+        ensures few { result ≤ max_writes }
     {
         self.writes
     }
@@ -41,7 +41,7 @@ impl<'p> Board<'p> {
     pub fn buckets(&self) -> u32
         ensures value { result ≡ bucket_count (write_count self.now) }
         ensures more { write_count self.now < result }
-        ensures few { result ≤ 524288 }
+        ensures few { result ≤ max_buckets }
     {
         self.buckets
     }
@@ -70,6 +70,7 @@ fn name_hash(name: &RowName) -> u64
 }
 
 ghost use Rattle.c5_definitions.specs.RowIndex.{fnv_round};
+ghost use Rattle.c5_rows.specs.Sizes.{max_workers, max_writes, max_buckets};
 
 // One round of FNV-1a.
 fn hash_round(hash: u64, byte: u8) -> u64

@@ -3,8 +3,7 @@
 ghost use Rattle.c5_board.specs.Law.{BoardLaw};
 
 /// What is true in every state that the rule allows, so between any two steps of any threads. The
-/// installed
-/// numbers are those of all passes together.
+/// installed numbers are those of all passes together.
 ///
 /// - Each role is held by exactly one pass. A pass's installed numbers are writes that its roles
 ///   own; each is

@@ -1,6 +1,5 @@
 //! The words that the scheduler, the workers, the snapshot and the readers of a log share, under a
-//! rule that
-//! is true between any two steps of any threads.
+//! rule that is true between any two steps of any threads.
 #![tactic(auto)]
 
 mod board;
@@ -15,7 +14,7 @@ mod rule;
 mod stores;
 mod words;
 
-pub use board::{Board, MAX_WORKERS};
+pub use board::Board;
 pub use known::{Known, Look, Record};
 pub use law::board_law;
 pub use pass::BoardPass;

@@ -3,7 +3,8 @@
 ghost use Rattle.std.specs.Prelude.{◌≡◌, ◌≢◌, ◌≤◌, ◌<◌, ◌++◌, [], ◌∷◌, true, max, length};
 ghost use Rattle.c5_definitions.specs.WriteNumbers.{IsFirstWrite, end_of};
 ghost use Rattle.c5_definitions.specs.RowIndex.{bucket_count, first_in_bucket};
-ghost use Rattle.c5_board.specs.Sets.{has, with_number};
+ghost use Rattle.c5_board.specs.Sets.{with_number};
+ghost use Rattle.c5_rows.specs.Numbers.{is_among};
 ghost use Rattle.c5_board.specs.Boards.{names, write_count, record_of, IsWorker};
 ghost use Rattle.c5_board.specs.Passes.{IsHeadOf, CoversRow, floor_of, bucket_up_to};
 
@@ -93,7 +94,7 @@ impl Board<'_> {
         ensures floor { floor_of pass.new i ≡ result }
         ensures least { floor_of pass.old i ≤ result }
         ensures positive { 1 ≤ result }
-        ensures own { has i pass.old.roles ≡ true → result ≡ floor_of pass.old i }
+        ensures own { is_among i pass.old.roles ≡ true → result ≡ floor_of pass.old i }
         ensures above { pass.old.snapshot ≡ true
             → end_of self.now.log.txns pass.old.place < result }
     {

@@ -20,7 +20,7 @@ impl<'p> Board<'p> {
         plan: &'p Plan<'p>,
         workers: u32,
     ) -> Result<(Board<'p>, BoardPass), NoMemory>
-        requires { (1 ≤ workers) × (workers ≤ 16) }
+        requires { (1 ≤ workers) × (workers ≤ max_workers) }
         ensures log { IfOk result (λ made. made.0.log ≡ plan.now) }
         ensures workers { IfOk result (λ made. made.0.workers ≡ workers) }
         ensures pass { IfOk result (λ made. made.1 ≡ first_pass made.0) }
@@ -51,7 +51,7 @@ ghost use Rattle.c5_definitions.specs.RowIndex.{bucket_count};
 
 // The least power of two that is at least 2 and at least twice the writes.
 fn bucket_count(writes: u32) -> u32
-    requires { writes ≤ 262144 }
+    requires { writes ≤ max_writes }
     ensures { result ≡ bucket_count writes }
 {
     let mut buckets = 2;
@@ -63,9 +63,9 @@ fn bucket_count(writes: u32) -> u32
 
 // The words of a new board: each worker's first number as its progress, and 0 for all others.
 fn first_words(alloc: Global, writes: u32, workers: u32, buckets: u32) -> Result<Vec<u64>, NoMemory>
-    requires writes { writes ≤ 262144 }
-    requires workers { workers ≤ 16 }
-    requires buckets { buckets ≤ 524288 }
+    requires writes { writes ≤ max_writes }
+    requires workers { workers ≤ max_workers }
+    requires buckets { buckets ≤ max_buckets }
     ensures { IfOk result (λ words. words.items ≡ first_words writes workers buckets) }
 {
     let writes = writes as usize;
@@ -78,7 +78,8 @@ fn first_words(alloc: Global, writes: u32, workers: u32, buckets: u32) -> Result
 }
 
 ghost use Rattle.std.specs.Prelude.{◌+◌, ◌^◌, ◌<◌, ◌++◌, length, replicate, OnOk};
-ghost use Rattle.c5_board.specs.Sets.{numbers_from};
+ghost use Rattle.c5_rows.specs.Numbers.{numbers_from};
+ghost use Rattle.c5_rows.specs.Sizes.{max_workers, max_writes, max_buckets};
 
 // Adds so many zeros at the end.
 fn extend_zeros(words: &mut Vec<u64>, count: usize) -> Result<(), NoMemory>
@@ -93,7 +94,7 @@ fn extend_zeros(words: &mut Vec<u64>, count: usize) -> Result<(), NoMemory>
 
 // Adds the numbers from 1 to `count` at the end.
 fn extend_numbers(words: &mut Vec<u64>, count: u32) -> Result<(), NoMemory>
-    requires { count ≤ 16 }
+    requires { count ≤ max_workers }
     ensures items { OnOk result (words.new.items ≡ words.old.items ++ numbers_from 1 count) }
     ensures len { OnOk result (length words.new.items ≡ length words.old.items + count) }
 {

@@ -1,8 +1,10 @@
 //! Passes are split and joined.
 
 ghost use Rattle.std.specs.Prelude.{◌≡◌, true};
-ghost use Rattle.c5_board.specs.Sets.{has};
-ghost use Rattle.c5_board.specs.Parts.{worker_part, without_worker, snapshot_part, without_snapshot, scheduler_part, without_scheduler, reader_part, joined};
+ghost use Rattle.c5_rows.specs.Numbers.{is_among};
+ghost use Rattle.c5_board.specs.Parts.{worker_part, without_worker, snapshot_part};
+ghost use Rattle.c5_board.specs.Parts.{without_snapshot, scheduler_part, without_scheduler};
+ghost use Rattle.c5_board.specs.Parts.{reader_part, joined};
 
 use crate::board::Board;
 use crate::pass::BoardPass;
@@ -14,7 +16,7 @@ impl Board<'_> {
     /// them.
     pub fn split_worker(&self, pass: BoardPass, i: u32) -> (BoardPass, BoardPass)
         requires pass { pass.board ≡ self.now }
-        requires role { has i pass.roles ≡ true }
+        requires role { is_among i pass.roles ≡ true }
         ensures rest { result.0 ≡ without_worker pass i }
         ensures part { result.1 ≡ worker_part pass i }
     {

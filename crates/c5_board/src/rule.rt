@@ -25,8 +25,7 @@ impl TableRule<(), Known, Opening> for BoardRule {
 }
 
 /// What a call on parts of a pass picks: what the second part of a split takes, and the view that a
-/// join
-/// leaves behind.
+/// join leaves behind.
 pub trait Picks {
     ghost use Rattle.c5_board.specs.Views.{Taken};
     ghost use Rattle.c5_board.specs.declared.known.Known.{Known};

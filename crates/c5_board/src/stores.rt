@@ -1,9 +1,11 @@
 //! Stores, and the exchange of a head.
 
-ghost use Rattle.std.specs.Prelude.{◌≡◌, ◌≤◌, ◌<◌, ◌+◌, ◌++◌, ℕ, [], ◌∷◌, true, false, max, length, Ok, Err, OnOk, IfErr, MatchResult};
+ghost use Rattle.std.specs.Prelude.{◌≡◌, ◌≤◌, ◌<◌, ◌+◌, ◌++◌, ℕ, [], ◌∷◌, true, false, max, length};
+ghost use Rattle.std.specs.Prelude.{Ok, Err, OnOk, IfErr, MatchResult};
 ghost use Rattle.c5_definitions.specs.WriteNumbers.{row_of, predecessor_of, end_of, IsFirstWrite};
 ghost use Rattle.c5_definitions.specs.RowIndex.{IsSlot};
-ghost use Rattle.c5_board.specs.Sets.{has, with_number};
+ghost use Rattle.c5_board.specs.Sets.{with_number};
+ghost use Rattle.c5_rows.specs.Numbers.{is_among};
 ghost use Rattle.c5_board.specs.Boards.{names, write_count, record_of, IsWorker};
 ghost use Rattle.c5_board.specs.Passes.{IsHeadOf, CoversRow, IsOutstanding, floor_of, owner_in};
 
@@ -65,9 +67,9 @@ impl Board<'_> {
     /// `Err` is the head found, which is below the predecessor; then nothing is installed.
     pub fn exchange_head(&self, pass: &mut BoardPass, w: u32, link: Record) -> Result<(), u32>
         requires pass { pass.old.board ≡ self.now }
-        requires role { has (owner_in pass.old w) pass.old.roles ≡ true }
+        requires role { is_among (owner_in pass.old w) pass.old.roles ≡ true }
         requires write { (1 ≤ w) × (w ≤ pass.old.scheduled) }
-        requires not_installed { has w pass.old.installed ≡ false }
+        requires not_installed { is_among w pass.old.installed ≡ false }
         requires link { link ≡ record_of (names self.now) w }
         ensures ok { OnOk result (pass.new ≡ record pass.old {
           installed = w ∷ pass.old.installed;
@@ -77,7 +79,8 @@ impl Board<'_> {
             ≡ record pass.old { looks = pass.old.looks ++ Look.ExchangeHead w seen ∷ [] }) }
         ensures seen { IfErr result (λ seen. IsHeadOf (names self.now) link.row seen
             × (seen < link.predecessor)) }
-        ensures covers { MatchResult result (λ done. CoversRow pass.old link.row link.predecessor) (λ seen. CoversRow pass.old link.row seen) }
+        ensures covers { MatchResult result (λ done. CoversRow pass.old link.row link.predecessor)
+            (λ seen. CoversRow pass.old link.row seen) }
     {
         let found = self.table.shared.compare_exchange::<ExchangesHead>(
             &mut pass.seat,
@@ -95,7 +98,7 @@ impl Board<'_> {
     /// Stores the progress of worker i: x is the least of its numbers that isn't installed.
     pub fn store_progress(&self, pass: &mut BoardPass, i: u32, x: u64)
         requires pass { pass.old.board ≡ self.now }
-        requires role { has i pass.old.roles ≡ true }
+        requires role { is_among i pass.old.roles ≡ true }
         requires least { IsOutstanding pass.old i x }
         ensures pass { pass.new ≡ record pass.old { floors = with_number pass.old.floors i x } }
         ensures floor { floor_of pass.new i ≡ x }

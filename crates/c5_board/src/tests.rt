@@ -1,5 +1,5 @@
 ghost use Rattle.std.specs.Prelude.{◌≡◌, ◌≤◌, ◌<◌, [], ◌∷◌, true, false, length, IfOk};
-ghost use Rattle.c5_board.specs.Sets.{has};
+ghost use Rattle.c5_rows.specs.Numbers.{is_among};
 ghost use Rattle.c5_board.specs.Boards.{write_count};
 
 use super::*;
@@ -58,7 +58,7 @@ fn schedule_first(board: &Board<'_>, pass: &mut BoardPass)
 fn install_first(board: &Board<'_>, pass: &mut BoardPass) -> bool
     requires pass { pass.old.board ≡ board.now }
     requires one { board.now.workers ≡ 1 }
-    requires role { has 1 pass.old.roles ≡ true }
+    requires role { is_among 1 pass.old.roles ≡ true }
     requires none { pass.old.installed ≡ [] }
     ensures board { pass.new.board ≡ board.now }
 {

@@ -1,14 +1,19 @@
 //! Where each word of a board is.
 
-ghost use Rattle.std.specs.Prelude.{◌≡◌, ◌≤◌, ◌<◌, ◌^◌};
+ghost use Rattle.std.specs.Prelude.{◌+◌, ◌≡◌, ◌≤◌, ◌<◌, ◌^◌};
 ghost use Rattle.c5_board.specs.declared.known.Record.{Record};
 ghost use Rattle.c5_definitions.specs.RowIndex.{bucket_count};
-ghost use Rattle.c5_board.specs.Words.{record_word, progress_word, scheduled_word, visible_word, bucket_word, packed};
+ghost use Rattle.c5_board.specs.Words.{record_word, progress_word, scheduled_word, visible_word};
+ghost use Rattle.c5_board.specs.Words.{bucket_word, packed};
 ghost use Rattle.c5_board.specs.Boards.{write_count};
 ghost use Rattle.c5_board.specs.Boards.{IsWorker};
+ghost use Rattle.c5_rows.specs.Sizes.{max_writes, max_workers};
 
 use crate::board::Board;
 use crate::known::Record;
+
+// A predecessor has 20 bits of a record's word: a write's number is at most 262,144.
+const PREDECESSORS: u64 = 1_048_576;
 
 impl Board<'_> {
     pub(crate) fn record_word(&self, w: u32) -> usize
@@ -28,7 +33,7 @@ impl Board<'_> {
 
     pub(crate) fn scheduled_word(&self) -> usize
         ensures value { result ≡ scheduled_word self.now.log self.now.workers }
-        ensures few { result ≤ 524304 }
+        ensures few { result ≤ max_writes + max_writes + max_workers }
     {
         let writes = self.writes as usize;
         writes + writes + self.workers as usize
@@ -49,23 +54,23 @@ impl Board<'_> {
 }
 
 impl Record {
-    // As one number: 20 bits for the predecessor, the row above them, and one more, so that it
-    // isn't 0.
+    // As one number: the predecessor, the row above it, and one more, so that it isn't 0.
     pub(crate) fn packed(self) -> u64
-        requires { (self.row ≤ 262144) × (self.predecessor ≤ 262144) }
+        requires { (self.row ≤ max_writes) × (self.predecessor ≤ max_writes) }
         ensures { result ≡ packed self }
     {
-        self.row as u64 * 1_048_576 + self.predecessor as u64 + 1
+        self.row as u64 * PREDECESSORS + self.predecessor as u64 + 1
     }
 
     // The record that a word holds.
     pub(crate) fn unpacked(word: u64) -> Record
         requires { (1 ≤ word) × (word ≤ 2 ^ 40) }
-        ensures { (link : Record) → word ≡ packed link → link.predecessor ≤ 262144 → result ≡ link }
+        ensures { (link : Record) → word ≡ packed link → link.predecessor ≤ max_writes
+            → result ≡ link }
     {
         Record {
-            row: ((word - 1) / 1_048_576) as u32,
-            predecessor: ((word - 1) % 1_048_576) as u32,
+            row: ((word - 1) / PREDECESSORS) as u32,
+            predecessor: ((word - 1) % PREDECESSORS) as u32,
         }
     }
 }

@@ -7,7 +7,7 @@ use Rattle.c5_definitions.specs.WriteNumbers.{row_of, predecessor_of, IsWrite}
 use Rattle.c5_definitions.specs.NumberLaws.{PredecessorsAreLast}
 use Rattle.c5_board.specs.declared.known.Look.{Look}
 use Rattle.c5_board.specs.declared.known.Record.{Record}
-use Rattle.c5_board.specs.Sets.{has}
+use Rattle.c5_rows.specs.Numbers.{is_among}
 use Rattle.c5_board.specs.Boards.{Board, Pass, names, record_of}
 use Rattle.c5_board.specs.Passes.{IsHeadOf, CoversRow, owner_in, floor_of, end_in}
 use Rattle.c5_chains.specs.Tries.{IsBehind, IsUnknown, FollowsInstalled}

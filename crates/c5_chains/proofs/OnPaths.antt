@@ -21,7 +21,7 @@ use Rattle.c5_board.specs.declared.known.Look.{Look}
 use Rattle.c5_board.specs.declared.known.Look.TheVariants.{LoadBucket}
 use Rattle.c5_board.specs.Boards.{Board, Pass, names, write_count}
 use Rattle.c5_board.specs.Passes.{bucket_up_to, IsSound}
-use Rattle.c5_chains.specs.Finds.{IsRowOf, IsAbsent, IsFree}
+use Rattle.c5_chains.specs.Finds.{IsNumberOfRow, IsAbsent, IsFree}
 use Rattle.c5_chains.specs.Paths.{path_loads, buckets_of, start_in, IsOther, FollowsPath, IsOnPath}
 
 -- one load more
@@ -191,7 +191,7 @@ within-log p l w same write =
 
 -- the row of the name
 pub row-found : (p now : Pass) (b : Board) (name : RowName) (j w : ℕ) → p.board ≡ b → now.scheduler ≡ p.scheduler → now.indexed ≡ p.indexed → IsFirstWrite (names p.board) w → name_at (names p.board) w ≡ Some name
-    → (now.scheduler ≡ true → w ≡ bucket_up_to (names b) now.indexed j) → IsRowOf p name w
+    → (now.scheduler ≡ true → w ≡ bucket_up_to (names b) now.indexed j) → IsNumberOfRow p name w
 row-found p now b name j w of role kept first named own = record {
   first = first;
   named = named;

@@ -1,6 +1,7 @@
 -- What a row is at a number of it, and what a walk down the row looks at.
 use Prim.Native.Nat.{zero, suc}
-use Rattle.std.specs.Prelude.{◌≡◌, ◌≤◌, ◌<◌, ◌==◌, ◌++◌, ◌&&◌, ℕ, max, nat_lt, List, [], ◌∷◌, map, slice_get, Option, Some, None, if◌then◌else◌}
+use Rattle.std.specs.Prelude.{◌≡◌, ◌≤◌, ◌<◌, ◌==◌, ◌++◌, ◌&&◌, ℕ, max, nat_lt, List, [], ◌∷◌, map}
+use Rattle.std.specs.Prelude.{slice_get, Option, Some, None, if◌then◌else◌}
 use Rattle.c5_rows.specs.declared.writes.Change.{Change}
 use Rattle.c5_rows.specs.declared.writes.Change.TheVariants as changes
 use Rattle.c5_rows.specs.declared.writes.Write.{Write}
@@ -31,28 +32,35 @@ at_number writes (suc i) = at_change_of (slice_get writes i)
 abbrev pub numbers_above : List RowName → ℕ → ℕ → ℕ → List ℕ
 numbers_above names row end zero = []
 numbers_above names row end (suc n) =
-    if nat_lt end (suc n) && (row_of names (suc n) == row) then suc n ∷ numbers_above names row end n else numbers_above names row end n
+    if nat_lt end (suc n) && (row_of names (suc n) == row)
+    then suc n ∷ numbers_above names row end n else numbers_above names row end n
 
--- the row's head was loaded, and then the record of each number of the row from it down to the last above the end
+-- the row's head was loaded, and then the record of each number of the row from it down to the last
+-- above the end
 pub record FollowsRow (old new : Pass) (row end : ℕ) : Type 0 where
   pub head : ℕ
   pub is_head : IsHeadOf (names old.board) row head
   pub pass : new ≡ record old {
     scheduled = max old.scheduled head;
-    looks = old.looks ++ LoadHead row head ∷ map (λ w. LoadRecord w (record_of (names old.board) w)) (numbers_above (names old.board) row end head);
+    looks = old.looks ++ LoadHead row head
+        ∷ map (λ w. LoadRecord w (record_of (names old.board) w))
+        (numbers_above (names old.board) row end head);
   }
 
 -- the same so far: w comes next, and no number of the row up to the end is above it
 pub record IsWalking (old now : Pass) (row end head w : ℕ) : Type 0 where
   pub visited : List ℕ
-  pub left : visited ++ numbers_above (names old.board) row end w ≡ numbers_above (names old.board) row end head
+  pub left : visited ++ numbers_above (names old.board) row end w
+      ≡ numbers_above (names old.board) row end head
   pub pass : now ≡ record old {
     scheduled = max old.scheduled head;
-    looks = old.looks ++ LoadHead row head ∷ map (λ w. LoadRecord w (record_of (names old.board) w)) visited;
+    looks = old.looks ++ LoadHead row head
+        ∷ map (λ w. LoadRecord w (record_of (names old.board) w)) visited;
   }
   pub not_above : w ≤ head
   pub is_head : IsHeadOf (names old.board) row w
-  pub greatest : (v : ℕ) → IsWrite (names old.board) v → row_of (names old.board) v ≡ row → v ≤ end → v ≤ w
+  pub greatest : (v : ℕ) → IsWrite (names old.board) v → row_of (names old.board) v ≡ row → v ≤ end
+      → v ≤ w
 
 -- the same, from the head that was found
 pub record IsWalkingDown (old now : Pass) (row end w : ℕ) : Type 0 where

@@ -9,8 +9,9 @@ use crate::path_end::PathEnd;
 use c5_board::{Board, BoardPass};
 use c5_rows::RowName;
 
-/// The number of the row of this name. `None` only if no write of the row is scheduled, as far as the pass knows.
-/// The buckets of the name's path are loaded in order, until one is empty or holds the row.
+/// The number of the row of this name. `None` only if no write of the row is scheduled, as far as
+/// the pass knows. The buckets of the name's path are loaded in order, until one is empty or holds
+/// the row.
 pub fn find(board: &Board<'_>, pass: &mut BoardPass, name: &RowName) -> Option<u32>
     requires { pass.old.board ≡ board.now }
     ensures found { IsFound pass.old name.now result }

@@ -31,8 +31,8 @@ fn next(bucket: u32, buckets: u32) -> u32
     if bucket + 1 == buckets { 0 } else { bucket + 1 }
 }
 
-/// Follows the path of a name to its end: its buckets are loaded in order, until one is empty or holds the row of
-/// the name.
+/// Follows the path of a name to its end: its buckets are loaded in order, until one is empty or
+/// holds the row of the name.
 pub fn follow_path(board: &Board<'_>, pass: &mut BoardPass, name: &RowName) -> PathEnd
     requires { pass.old.board ≡ board.now }
     ensures end { EndsAt pass.old name.now result }

@@ -1,5 +1,5 @@
-//! A write is installed by one exchange of its row's head; a reader finds a row's number by its name, and
-//! follows the row's numbers from its head down to the place that it reads.
+//! A write is installed by one exchange of its row's head; a reader finds a row's number by its
+//! name, and follows the row's numbers from its head down to the place that it reads.
 #![tactic(auto)]
 
 mod at;

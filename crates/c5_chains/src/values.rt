@@ -12,7 +12,8 @@ use c5_board::{Board, BoardPass};
 use c5_definitions::number_law;
 use c5_frames::LogBuffer;
 
-// The greatest number of the row up to `end`, or 0: from the row's head, by one record for each number above it.
+// The greatest number of the row up to `end`, or 0: from the row's head, by one record for each
+// number above it.
 fn last_up_to(board: &Board<'_>, pass: &mut BoardPass, row: u32, end: u32) -> u32
     requires pass { pass.old.board ≡ board.now }
     requires row { IsFirstWrite (names pass.old.board) row }
@@ -47,7 +48,8 @@ pub fn value_at<'p>(board: &Board<'p>, pass: &mut BoardPass, row: u32, place: u3
     requires pass { pass.old.board ≡ board.now }
     requires row { IsFirstWrite (names board.now) row }
     requires place { place ≤ pass.old.place }
-    ensures value { result ≡ at_number (writes_of board.now.log.txns) (last_on_row (names board.now) row (end_of board.now.log.txns place)) }
+    ensures value { result ≡ at_number (writes_of board.now.log.txns)
+        (last_on_row (names board.now) row (end_of board.now.log.txns place)) }
     ensures looks { FollowsRow pass.old pass.new row (end_of board.now.log.txns place) }
 {
     number_law();

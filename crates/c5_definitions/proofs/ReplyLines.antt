@@ -16,7 +16,7 @@ use Rattle.c5_rows.specs.declared.writes.RowName.{RowName}
 use Rattle.c5_rows.specs.declared.writes.Txn.{Txn}
 use Rattle.c5_definitions.specs.declared.script.ReadLine.{ReadLine}
 use Rattle.c5_definitions.specs.declared.script.ReadLine.TheVariants.{OneRow, SumOf}
-use Rattle.c5_definitions.specs.Answers.{answer_of, row_answer, line_answer, lines_from, names_in}
+use Rattle.c5_definitions.specs.Answers.{answer_of, row_answer, line_answer, lines_from, names_of_line}
 use Rattle.c5_definitions.specs.FitsScript.{IsRead, IsReadLine}
 use Rattle.c5_definitions.specs.FitsState.{MayBeIn, StateFits}
 use Rattle.c5_definitions.specs.Lawful.{IsLawfulCell, IsLawfulTable}
@@ -114,7 +114,7 @@ row-line : (tables : List TableDef) (name : RowName) (found : Option (List Cell)
 row-line tables name None lawful key fits = line-append (name_text tables name) (codes " -") (name-line tables name lawful key) refl
 row-line tables name (Some row) lawful key fits = line-append (name_text tables name) (flat_map (λ cell. 32 ∷ cell_text cell) row) (name-line tables name lawful key) (cells-line row (fits row refl).cells)
 
-pub answer-is_line : (tables : List TableDef) (state : State) (line : ReadLine) → AllByRecursion IsLawfulTable tables → IsReadLine line → StateFits tables state → IsLine (answer_line tables (line_answer line (map (get state) (names_in line))))
+pub answer-is_line : (tables : List TableDef) (state : State) (line : ReadLine) → AllByRecursion IsLawfulTable tables → IsReadLine line → StateFits tables state → IsLine (answer_line tables (line_answer line (map (get state) (names_of_line line))))
 answer-is_line tables state (OneRow name) lawful is fits = row-line tables name (get state name) lawful is.each (fits name)
 answer-is_line tables state (SumOf table col keys) lawful is fits = line-append (codes "sum ") (signed_decimal _) refl (signed-line _)
 

@@ -1,5 +1,6 @@
 -- What a read block is answered.
-use Rattle.std.specs.Prelude.{◌≡◌, ℕ, ℤ, pos, ◌+ℤ◌, List, [], ◌∷◌, map, length, take, drop, Option, Some, None}
+use Rattle.std.specs.Prelude.{◌≡◌, ℕ, ℤ, pos, ◌+ℤ◌, List, [], ◌∷◌, map, length, take, drop, Option}
+use Rattle.std.specs.Prelude.{Some, None}
 use Rattle.std.specs.List.{flat_map}
 use Rattle.std.specs.FinMap.{get}
 use Rattle.c5_rows.specs.declared.cells.Cell.{Cell}
@@ -18,13 +19,13 @@ abbrev pub table_names : ℕ → List (List ℕ) → List RowName
 table_names table keys = map (λ key. record { table = table; key = key }) keys
 
 -- the names of the rows that a line asks for; a repeated key stands again
-abbrev pub names_in : ReadLine → List RowName
-names_in (OneRow name) = name ∷ []
-names_in (SumOf table col keys) = table_names table keys
+abbrev pub names_of_line : ReadLine → List RowName
+names_of_line (OneRow name) = name ∷ []
+names_of_line (SumOf table col keys) = table_names table keys
 
 -- the names of the rows that a read block asks for, in order
 abbrev pub asked_names : List ReadLine → List RowName
-asked_names lines = flat_map names_in lines
+asked_names lines = flat_map names_of_line lines
 
 -- the number, or 0 where there is none
 abbrev pub or_zero : Option ℤ → ℤ
@@ -53,7 +54,7 @@ line_answer (SumOf table col keys) rows = Sum (sum_in col rows)
 
 -- the answer of a state: one line for each line of the read block
 abbrev pub lines_from : List ReadLine → State → List AnswerLine
-lines_from lines state = map (λ line. line_answer line (map (get state) (names_in line))) lines
+lines_from lines state = map (λ line. line_answer line (map (get state) (names_of_line line))) lines
 
 -- the answer of a state to a read block
 unfoldable pub answer_of : ReadParts → State → List AnswerLine
@@ -63,9 +64,11 @@ answer_of read state = lines_from read.lines state
 abbrev pub lines_over : List ReadLine → List Read → List AnswerLine
 lines_over [] reads = []
 lines_over (line ∷ lines) reads =
-    line_answer line (map (λ read. read.1) (take (length (names_in line)) reads)) ∷ lines_over lines (drop (length (names_in line)) reads)
+    line_answer line (map (λ read. read.1) (take (length (names_of_line line)) reads))
+    ∷ lines_over lines (drop (length (names_of_line line)) reads)
 
 -- exactly the rows of the block were asked for, in order; answered so, this is its answer
-pub record IsAnswered (lines : List ReadLine) (reads : List Read) (answer : List AnswerLine) : Type 0 where
+pub record IsAnswered (lines : List ReadLine) (reads : List Read)
+    (answer : List AnswerLine) : Type 0 where
   pub names : map (λ read. read.0) reads ≡ asked_names lines
   pub answers : answer ≡ lines_over lines reads

@@ -1,5 +1,6 @@
 -- What a statement of a transaction needs, and what it does to rows.
-use Rattle.std.specs.Prelude.{ℕ, ℤ, pos, negsuc, ◌^◌, ◌+ℤ◌, Bool, List, Option, Some, None, nat_lt, int_lt, int_le, slice_get, slice_set, if◌then◌else◌}
+use Rattle.std.specs.Prelude.{ℕ, ℤ, pos, negsuc, ◌^◌, ◌+ℤ◌, Bool, List, Option, Some, None, nat_lt}
+use Rattle.std.specs.Prelude.{int_lt, int_le, slice_get, slice_set, if◌then◌else◌}
 use Rattle.std.specs.Ordering.{int_eq}
 use Rattle.c5_rows.specs.declared.cells.Cell.{Cell}
 use Rattle.c5_rows.specs.declared.cells.Cell.TheVariants.{Int, Txt}
@@ -56,7 +57,9 @@ need_effect (Some cell) rel n = if compares rel cell n then keeps else declines
 abbrev pub add_effect : RowName → ℕ → Option (List Cell) → Option ℤ → ℤ → Effect
 add_effect name col None cell n = declines
 add_effect name col (Some row) None n = declines
-add_effect name col (Some row) (Some cell) n = if fits_i64 (cell +ℤ n) then sets name (Some (slice_set row col (Int (cell +ℤ n)))) else declines
+add_effect name col (Some row) (Some cell) n =
+    if fits_i64 (cell +ℤ n) then sets name (Some (slice_set row col (Int (cell +ℤ n))))
+    else declines
 
 -- what a statement does where the row that it needs is this one
 abbrev pub effect_of : Statement → Option (List Cell) → Effect

@@ -37,7 +37,8 @@ row_needed (Some name) state = get state name
 
 -- a row is set, and its name is noted
 abbrev pub set_row : RowName → Option (List Cell) → BodySoFar → BodySoFar
-set_row name row p = record { state = after_change name (change_to row) p.state; noted = insert p.noted name tt }
+set_row name row p =
+    record { state = after_change name (change_to row) p.state; noted = insert p.noted name tt }
 
 -- one statement after the other; none where one of them declines
 abbrev pub after_statements : List Statement → BodySoFar → Option BodySoFar
@@ -49,10 +50,16 @@ after_statements (statement ∷ statements) p =
       | sets name row ↦ after_statements statements (set_row name row p)
     ]
 
--- no writes where a statement declined; else for each noted name, ascending, the row that the state then has
+-- no writes where a statement declined; else for each noted name, ascending, the row that the state
+-- then has
 abbrev pub ending_of : Option BodySoFar → Ending
 ending_of None = record { declined = true; writes = [] }
-ending_of (Some p) = record { declined = false; writes = map (λ name. write_of name (get p.state name)) (keys p.noted) }
+ending_of (Some p) =
+    record {
+      declined = false;
+      writes = map (λ name. write_of name (get p.state name))
+          (keys p.noted);
+    }
 
 -- how a body ends on a state
 unfoldable pub eval : List Statement → State → Ending

@@ -3,7 +3,8 @@ use Rattle.std.specs.Prelude.{◌≡◌, ◌≤◌, ◌<◌, ℕ, List, length, 
 use Rattle.std.specs.List.{AllByRecursion}
 use Rattle.c5_rows.specs.Bytes.{IsKey}
 use Rattle.c5_rows.specs.Fitting.{RowFits}
-use Rattle.c5_rows.specs.Sizes.{max_statements, max_sessions, max_workers, max_read_lines, max_reads, max_sum_keys, max_turn_words}
+use Rattle.c5_rows.specs.Sizes.{max_statements, max_sessions, max_workers, max_read_lines}
+use Rattle.c5_rows.specs.Sizes.{max_reads, max_sum_keys, max_turn_words}
 use Rattle.c5_rows.specs.Tables.{IsSchema}
 use Rattle.c5_rows.specs.declared.cells.CellType.TheVariants as types
 use Rattle.c5_rows.specs.declared.tables.TableDef.{TableDef}
@@ -22,7 +23,8 @@ HasTable tables table = table < length tables
 
 -- this column of this table is an Int column
 abbrev pub HasIntColumn : List TableDef → ℕ → ℕ → Type 0
-HasIntColumn tables table col = MatchOption (slice_get tables table) ⊥ (λ found. slice_get found.columns col ≡ Some types.Int)
+HasIntColumn tables table col =
+    MatchOption (slice_get tables table) ⊥ (λ found. slice_get found.columns col ≡ Some types.Int)
 
 -- the tables have what the statement names
 abbrev pub StatementFits : List TableDef → Statement → Type 0
@@ -56,7 +58,8 @@ IsStatement (Copy from to) = IsKey from.key × IsKey to.key
 -- the keys of a line are keys, and a sum has at least one
 abbrev pub IsReadLine : ReadLine → Type 0
 IsReadLine (OneRow name) = IsKey name.key
-IsReadLine (SumOf table col keys) = (1 ≤ length keys) × (length keys ≤ max_sum_keys) × AllByRecursion IsKey keys
+IsReadLine (SumOf table col keys) = (1 ≤ length keys) × (length keys ≤ max_sum_keys)
+    × AllByRecursion IsKey keys
 
 -- the number of a worker or a session
 abbrev pub IsTurn : TurnWord → Type 0

@@ -1,5 +1,6 @@
 -- What a body does over answered reads.
-use Rattle.std.specs.Prelude.{◌≡◌, Bool, true, false, List, [], ◌∷◌, map, Option, Some, None, MatchOption}
+use Rattle.std.specs.Prelude.{◌≡◌, Bool, true, false, List, [], ◌∷◌, map, Option, Some, None}
+use Rattle.std.specs.Prelude.{MatchOption}
 use Rattle.std.specs.FinMap.{FinMap, empty, get, insert, entries}
 use Rattle.std.specs.List.{AllByRecursion}
 use Rattle.c5_rows.specs.declared.cells.Cell.{Cell}
@@ -23,10 +24,12 @@ AnsweredBy state reads = AllByRecursion (λ read. read.1 ≡ get state read.0) r
 abbrev pub Own : Type 0
 Own = FinMap row_name_cmp (Option (List Cell))
 
--- the row that is needed, and the reads that are left: a row that the body has set is that one, any other is the first read's
+-- the row that is needed, and the reads that are left: a row that the body has set is that one, any
+-- other is the first read's
 abbrev pub FindsRow : Option RowName → Own → List Read → Option (List Cell) → List Read → Type 0
 FindsRow None own reads row rest = (row ≡ None) × (rest ≡ reads)
-FindsRow (Some name) own reads row rest = MatchOption (get own name) (reads ≡ (name, row) ∷ rest) (λ set. (row ≡ set) × (rest ≡ reads))
+FindsRow (Some name) own reads row rest =
+    MatchOption (get own name) (reads ≡ (name, row) ∷ rest) (λ set. (row ≡ set) × (rest ≡ reads))
 
 -- one write for each row that was set, ascending by name
 abbrev pub own_writes : Own → List Write
@@ -34,9 +37,11 @@ own_writes own = map (λ (name, row). write_of name row) (entries own)
 
 -- the statements, after those that set these rows, use exactly the reads, and end so
 abbrev pub FollowsFrom : List Statement → Own → List Read → Bool → List Write → Type 0
-FollowsFrom [] own reads declined writes = (reads ≡ []) × (declined ≡ false) × (writes ≡ own_writes own)
+FollowsFrom [] own reads declined writes = (reads ≡ []) × (declined ≡ false)
+    × (writes ≡ own_writes own)
 FollowsFrom (statement ∷ statements) own reads declined writes =
-    (found : Option (List Cell)) × (rest : List Read) × FindsRow (needed statement) own reads found rest × elim (effect_of statement found) [
+    (found : Option (List Cell)) × (rest : List Read)
+    × FindsRow (needed statement) own reads found rest × elim (effect_of statement found) [
       | declines ↦ (rest ≡ []) × (declined ≡ true) × (writes ≡ [])
       | keeps ↦ FollowsFrom statements own rest declined writes
       | sets name row ↦ FollowsFrom statements (insert own name row) rest declined writes

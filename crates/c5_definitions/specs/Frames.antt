@@ -1,5 +1,6 @@
 -- The payload of a frame, with the kind of the first test that it fails by itself.
-use Rattle.std.specs.Prelude.{ℕ, zero, suc, ◌==◌, nat_lt, List, [], ◌∷◌, length, take, drop, slice_get, Some, None, Result, Ok, Err, if◌then◌else◌}
+use Rattle.std.specs.Prelude.{ℕ, zero, suc, ◌==◌, nat_lt, List, [], ◌∷◌, length, take, drop}
+use Rattle.std.specs.Prelude.{slice_get, Some, None, Result, Ok, Err, if◌then◌else◌}
 use Rattle.c5_rows.specs.Bytes.{checked_bytes, is_key_byte, is_text_byte}
 use Rattle.c5_rows.specs.declared.cells.CellType.{CellType}
 use Rattle.c5_rows.specs.declared.cells.CellType.TheVariants as types
@@ -30,16 +31,21 @@ pub data Frame : Type 0 where
 -- a byte of length, and so many bytes, which are a key
 unfoldable pub key_at : List ℕ → Result (List ℕ × List ℕ) LogKind
 key_at [] = Err kinds.Key
-key_at (n ∷ rest) = if nat_lt (length rest) n then Err kinds.Key else (or_cause kinds.Key (checked_bytes 1 max_key_bytes is_key_byte (take n rest)) >>= λ key. Ok (key, drop n rest))
+key_at (n ∷ rest) = if nat_lt (length rest) n then Err kinds.Key
+    else (or_cause kinds.Key (checked_bytes 1 max_key_bytes is_key_byte (take n rest))
+    >>= λ key. Ok (key, drop n rest))
 
 -- a byte of length, and so many bytes, which are a text
 unfoldable pub text_at : List ℕ → Result (Cell × List ℕ) LogKind
 text_at [] = Err kinds.Cell
-text_at (n ∷ rest) = if nat_lt (length rest) n then Err kinds.Cell else (or_cause kinds.Cell (checked_bytes 0 max_text_bytes is_text_byte (take n rest)) >>= λ text. Ok (Txt text, drop n rest))
+text_at (n ∷ rest) = if nat_lt (length rest) n then Err kinds.Cell
+    else (or_cause kinds.Cell (checked_bytes 0 max_text_bytes is_text_byte (take n rest))
+    >>= λ text. Ok (Txt text, drop n rest))
 
 -- 8 bytes
 unfoldable pub int_at : List ℕ → Result (Cell × List ℕ) LogKind
-int_at bytes = if nat_lt (length bytes) 8 then Err kinds.Cell else Ok (Int (signed_64 bytes), drop 8 bytes)
+int_at bytes = if nat_lt (length bytes) 8 then Err kinds.Cell
+    else Ok (Int (signed_64 bytes), drop 8 bytes)
 
 -- a cell of a column of this type
 unfoldable pub cell_at : CellType → List ℕ → Result (Cell × List ℕ) LogKind
@@ -70,7 +76,8 @@ change_at columns (suc (suc op) ∷ rest) = Err kinds.Cell
 
 -- the table of this number
 unfoldable pub table_numbered : ℕ → List TableDef → Result TableDef LogKind
-table_numbered number tables = elim (slice_get tables number) [ None ↦ Err kinds.Table | Some table ↦ Ok table ]
+table_numbered number tables = elim
+    (slice_get tables number) [ None ↦ Err kinds.Table | Some table ↦ Ok table ]
 
 -- what stands behind the byte `W`: the number of the table, the key, the change
 unfoldable pub write_at : List TableDef → List ℕ → Result Write LogKind
@@ -83,7 +90,12 @@ write_at tables (number ∷ rest) = do
 
 -- what stands behind the byte `C`: the script number, the stamp, the number of writes
 unfoldable pub mark_at : List ℕ → Result Mark LogKind
-mark_at bytes = if length bytes == 16 then Ok (record { script = number_32 bytes; stamp = number_64 (drop 4 bytes); count = number_32 (drop 12 bytes) }) else Err kinds.Length
+mark_at bytes = if length bytes == 16
+    then Ok (record {
+      script = number_32 bytes;
+      stamp = number_64 (drop 4 bytes);
+      count = number_32 (drop 12 bytes);
+    }) else Err kinds.Length
 
 -- what stands behind the byte `E`: the number of transactions
 unfoldable pub end_at : List ℕ → Result ℕ LogKind

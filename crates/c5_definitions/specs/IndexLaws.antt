@@ -2,14 +2,16 @@
 use Rattle.std.specs.Prelude.{◌≡◌, ◌≢◌, ◌≤◌, ◌<◌, ◌*◌, ℕ, List, length}
 use Rattle.c5_rows.specs.declared.writes.RowName.{RowName}
 use Rattle.c5_definitions.specs.WriteNumbers.{IsFirstWrite}
-use Rattle.c5_definitions.specs.RowIndex.{bucket_count, start_of, next_bucket, bucket_on_path, start_of_write, first_in_bucket, IsSlot}
+use Rattle.c5_definitions.specs.RowIndex.{bucket_count, start_of, next_bucket, bucket_on_path}
+use Rattle.c5_definitions.specs.RowIndex.{start_of_write, first_in_bucket, IsSlot}
+use Rattle.c5_rows.specs.Sizes.{max_writes, max_buckets}
 
 -- there are more buckets than writes, and paths stay among them
 pub record BucketsSuffice (writes : ℕ) : Type 0 where
   pub two : 2 ≤ bucket_count writes
   pub twice : 2 * writes ≤ bucket_count writes
   pub more : writes < bucket_count writes
-  pub few : writes ≤ 262144 → bucket_count writes ≤ 524288
+  pub few : writes ≤ max_writes → bucket_count writes ≤ max_buckets
   pub start : (name : RowName) → start_of (bucket_count writes) name < bucket_count writes
   pub next : (j : ℕ) → j < bucket_count writes
       → next_bucket (bucket_count writes) j < bucket_count writes

@@ -1,9 +1,12 @@
 -- The items of a log in their order, the tests of each, and the first fault of any bytes.
 --
--- A log is a list of items. Each is tested once all its bytes have come. What has been read before an item
--- says which item it is, how many bytes it has, and which tests it must pass. The first item that fails one
--- is the fault; where none fails and the end mark has not come whole, the item that is not whole is cut.
-use Rattle.std.specs.Prelude.{ℕ, ◌+◌, ◌-◌, ◌&&◌, ◌||◌, ◌==◌, Bool, true, nat_lt, is_some, List, [], ◌∷◌, ◌++◌, length, slice_get, Option, Some, None, Result, Ok, Err, if◌then◌else◌}
+-- A log is a list of items. Each is tested once all its bytes have come. What has been read before
+-- an item says which item it is, how many bytes it has, and which tests it must pass. The first
+-- item that fails one is the fault; where none fails and the end mark has not come whole, the item
+-- that is not whole is cut.
+use Rattle.std.specs.Prelude.{ℕ, ◌+◌, ◌-◌, ◌&&◌, ◌||◌, ◌==◌, Bool, true, nat_lt, is_some, List, []}
+use Rattle.std.specs.Prelude.{◌∷◌, ◌++◌, length, slice_get, Option, Some, None, Result, Ok, Err}
+use Rattle.std.specs.Prelude.{if◌then◌else◌}
 use Rattle.std.specs.Str.{bytes_eq}
 use Rattle.std.specs.Ordering.{is_gt}
 use Rattle.c5_rows.specs.Bytes.{checked_bytes, is_name_byte}
@@ -15,7 +18,8 @@ use Rattle.c5_rows.specs.declared.tables.TableDef.{TableDef}
 use Rattle.c5_rows.specs.declared.writes.RowName.{RowName}
 use Rattle.c5_rows.specs.declared.writes.Write.{Write}
 use Rattle.c5_rows.specs.declared.writes.Txn.{Txn}
-use Rattle.c5_rows.specs.Sizes.{max_tables, max_columns, max_name_bytes, min_payload_bytes, max_payload_bytes}
+use Rattle.c5_rows.specs.Sizes.{max_tables, max_columns, max_name_bytes, min_payload_bytes}
+use Rattle.c5_rows.specs.Sizes.{max_payload_bytes}
 use Rattle.c5_definitions.specs.declared.fault.LogKind.{LogKind}
 use Rattle.c5_definitions.specs.declared.fault.LogKind.TheVariants as kinds
 use Rattle.c5_definitions.specs.declared.fault.LogFault.{LogFault}
@@ -24,8 +28,8 @@ use Rattle.c5_definitions.specs.Numbers.{number_32}
 use Rattle.c5_definitions.specs.Steps.{◌>>=◌, or_cause}
 use Rattle.c5_definitions.specs.Frames.{Mark, Frame, write, mark, end, frame_at}
 
--- an item, with what the ones before it say of it: how many tables are still to come, the name of the table
--- whose columns come, how many bytes it has
+-- an item, with what the ones before it say of it: how many tables are still to come, the name of
+-- the table whose columns come, how many bytes it has
 pub data Item : Type 0 where
   the_magic : Item
   table_count : Item
@@ -49,8 +53,8 @@ size_of frame_length = 4
 size_of (frame_payload size) = size
 size_of nothing_more = 1
 
--- what has been read: the tables, the transactions, the writes since the last commit mark, its stamp or 0,
--- and the item that comes next
+-- what has been read: the tables, the transactions, the writes since the last commit mark, its
+-- stamp or 0, and the item that comes next
 pub record LogSoFar : Type 0 where
   pub tables : List TableDef
   pub txns : List Txn
@@ -67,11 +71,14 @@ header_count low high (n ∷ rest) = if nat_lt n low || nat_lt high n then Err k
 
 -- the name of a table, which no earlier table has
 unfoldable pub new_table_name : List TableDef → List ℕ → Result (List ℕ) LogKind
-new_table_name tables bytes = or_cause kinds.Header (checked_bytes 1 max_name_bytes is_name_byte bytes) >>= λ name. if is_some (table_number name tables) then Err kinds.Header else Ok name
+new_table_name tables bytes = or_cause kinds.Header
+    (checked_bytes 1 max_name_bytes is_name_byte bytes)
+    >>= λ name. if is_some (table_number name tables) then Err kinds.Header else Ok name
 
 -- the type that a byte stands for
 unfoldable pub type_of_byte : ℕ → Result CellType LogKind
-type_of_byte byte = if byte == 1 then Ok types.Int else (if byte == 2 then Ok types.Text else Err kinds.Header)
+type_of_byte byte = if byte == 1 then Ok types.Int
+    else (if byte == 2 then Ok types.Text else Err kinds.Header)
 
 -- the types that bytes stand for
 unfoldable pub types_of_bytes : List ℕ → Result (List CellType) LogKind
@@ -94,28 +101,52 @@ is_above name (Some last) = is_gt (row_name_cmp name last.name)
 
 -- the same, and another item comes next
 abbrev pub expecting : LogSoFar → Item → LogSoFar
-expecting s item = record { tables = s.tables; txns = s.txns; writes = s.writes; stamp = s.stamp; next = item }
+expecting s item =
+    record { tables = s.tables; txns = s.txns; writes = s.writes; stamp = s.stamp; next = item }
 
 -- one more table, and then the next one or the first frame
 abbrev pub with_table : LogSoFar → ℕ → TableDef → LogSoFar
-with_table s missing table = record { tables = s.tables ++ table ∷ []; txns = s.txns; writes = s.writes; stamp = s.stamp; next = if missing == 1 then frame_length else name_length (missing - 1) }
+with_table s missing table =
+    record {
+      tables = s.tables ++ table ∷ [];
+      txns = s.txns;
+      writes = s.writes;
+      stamp = s.stamp;
+      next = if missing == 1 then frame_length else name_length (missing - 1);
+    }
 
 -- a write, whose name is above that of the last one since the commit mark
 unfoldable pub after_write : LogSoFar → Write → Result LogSoFar LogKind
-after_write s new = if is_above new.name (last_of s.writes) then Ok (record { tables = s.tables; txns = s.txns; writes = s.writes ++ new ∷ []; stamp = s.stamp; next = frame_length }) else Err kinds.Order
+after_write s new = if is_above new.name (last_of s.writes)
+    then Ok (record {
+      tables = s.tables;
+      txns = s.txns;
+      writes = s.writes ++ new ∷ [];
+      stamp = s.stamp;
+      next = frame_length;
+    }) else Err kinds.Order
 
 -- a commit mark, whose stamp is above the last one, with the number of the writes
 unfoldable pub after_mark : LogSoFar → Mark → Result LogSoFar LogKind
 after_mark s new =
     if nat_lt s.stamp new.stamp
     then (if length s.writes == new.count
-    then Ok (record { tables = s.tables; txns = s.txns ++ record { script = new.script; stamp = new.stamp; writes = s.writes } ∷ []; writes = []; stamp = new.stamp; next = frame_length })
+    then Ok (record {
+      tables = s.tables;
+      txns = s.txns
+          ++ record { script = new.script; stamp = new.stamp; writes = s.writes } ∷ [];
+      writes =
+          [];
+      stamp = new.stamp;
+      next = frame_length;
+    })
     else Err kinds.Count)
     else Err kinds.Stamp
 
 -- the end mark, with no write since the last commit mark and the number of the transactions
 unfoldable pub after_end : LogSoFar → ℕ → Result LogSoFar LogKind
-after_end s count = if length s.writes == 0 && (length s.txns == count) then Ok (expecting s nothing_more) else Err kinds.End
+after_end s count = if length s.writes == 0 && (length s.txns == count)
+    then Ok (expecting s nothing_more) else Err kinds.End
 
 unfoldable pub after_frame : LogSoFar → Frame → Result LogSoFar LogKind
 after_frame s (write new) = after_write s new
@@ -124,13 +155,22 @@ after_frame s (end count) = after_end s count
 
 -- an item of these bytes
 unfoldable pub after_item : Item → LogSoFar → List ℕ → Result LogSoFar LogKind
-after_item the_magic s bytes = if bytes_eq bytes magic then Ok (expecting s table_count) else Err kinds.Magic
-after_item table_count s bytes = header_count 1 max_tables bytes >>= λ n. Ok (expecting s (name_length n))
-after_item (name_length missing) s bytes = header_count 1 max_name_bytes bytes >>= λ n. Ok (expecting s (table_name missing n))
-after_item (table_name missing size) s bytes = new_table_name s.tables bytes >>= λ name. Ok (expecting s (column_count missing name))
-after_item (column_count missing name) s bytes = header_count 1 max_columns bytes >>= λ n. Ok (expecting s (column_types missing name n))
-after_item (column_types missing name size) s bytes = types_of_bytes bytes >>= λ columns. Ok (with_table s missing (record { name = name; columns = columns }))
-after_item frame_length s bytes = if nat_lt (number_32 bytes) min_payload_bytes || nat_lt max_payload_bytes (number_32 bytes) then Err kinds.Length else Ok (expecting s (frame_payload (number_32 bytes)))
+after_item the_magic s bytes = if bytes_eq bytes magic then Ok (expecting s table_count)
+    else Err kinds.Magic
+after_item table_count s bytes = header_count 1 max_tables bytes
+    >>= λ n. Ok (expecting s (name_length n))
+after_item (name_length missing) s bytes =
+    header_count 1 max_name_bytes bytes >>= λ n. Ok (expecting s (table_name missing n))
+after_item (table_name missing size) s bytes =
+    new_table_name s.tables bytes >>= λ name. Ok (expecting s (column_count missing name))
+after_item (column_count missing name) s bytes =
+    header_count 1 max_columns bytes >>= λ n. Ok (expecting s (column_types missing name n))
+after_item (column_types missing name size) s bytes =
+    types_of_bytes bytes >>= λ columns. Ok
+    (with_table s missing (record { name = name; columns = columns }))
+after_item frame_length s bytes = if nat_lt (number_32 bytes) min_payload_bytes
+    || nat_lt max_payload_bytes (number_32 bytes) then Err kinds.Length
+    else Ok (expecting s (frame_payload (number_32 bytes)))
 after_item (frame_payload size) s bytes = frame_at s.tables bytes >>= λ frame. after_frame s frame
 after_item nothing_more s bytes = Err kinds.After
 
@@ -156,7 +196,9 @@ after_whole r bytes = elim (after_item r.so_far.next r.so_far bytes) [
 
 -- one byte
 unfoldable pub after_byte : Reading → ℕ → Result Reading LogFault
-after_byte r byte = if length r.come + 1 == size_of r.so_far.next then after_whole r (r.come ++ byte ∷ []) else Ok (record { so_far = r.so_far; offset = r.offset; come = r.come ++ byte ∷ [] })
+after_byte r byte = if length r.come + 1 == size_of r.so_far.next
+    then after_whole r (r.come ++ byte ∷ [])
+    else Ok (record { so_far = r.so_far; offset = r.offset; come = r.come ++ byte ∷ [] })
 
 -- one byte after the other
 unfoldable pub after_bytes : Reading → List ℕ → Result Reading LogFault
@@ -165,7 +207,12 @@ after_bytes r (byte ∷ bytes) = after_byte r byte >>= λ next. after_bytes next
 
 -- before the first byte
 abbrev pub at_start : Reading
-at_start = record { so_far = record { tables = []; txns = []; writes = []; stamp = 0; next = the_magic }; offset = 0; come = [] }
+at_start =
+    record {
+      so_far = record { tables = []; txns = []; writes = []; stamp = 0; next = the_magic };
+      offset = 0;
+      come = [];
+    }
 
 -- the tables and the transactions of a log
 pub record LogParts : Type 0 where

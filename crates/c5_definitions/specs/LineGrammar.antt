@@ -27,8 +27,10 @@ abbrev pub spelled_word : Word → List ℕ
 spelled_word (bare bytes) = bytes
 spelled_word (quoted text) = 34 ∷ text ++ 34 ∷ []
 
--- blanks, a word that the line's end or a blank follows, and then the other words; blanks behind the last
+-- blanks, a word that the line's end or a blank follows, and then the other words; blanks behind
+-- the last
 unfoldable pub IsLineOf : List Word → List ℕ → Type 0
 IsLineOf [] line = IsBlank line
 IsLineOf (word ∷ words) line =
-    (blanks : List ℕ) × (rest : List ℕ) × IsBlank blanks × IsWord word × IsTrue (is_word_end rest) × (line ≡ blanks ++ (spelled_word word ++ rest)) × IsLineOf words rest
+    (blanks : List ℕ) × (rest : List ℕ) × IsBlank blanks × IsWord word × IsTrue (is_word_end rest)
+    × (line ≡ blanks ++ (spelled_word word ++ rest)) × IsLineOf words rest

@@ -1,5 +1,6 @@
 -- The lines of a script, and the words of a line.
-use Rattle.std.specs.Prelude.{ℕ, zero, suc, ◌==◌, Bool, true, List, [], ◌∷◌, ◌++◌, Result, Ok, Err, if◌then◌else◌}
+use Rattle.std.specs.Prelude.{ℕ, zero, suc, ◌==◌, Bool, true, List, [], ◌∷◌, ◌++◌, Result, Ok, Err}
+use Rattle.std.specs.Prelude.{if◌then◌else◌}
 use Rattle.std.specs.List.{list_all, onto_first}
 use Rattle.c5_rows.specs.Bytes.{is_between}
 use Rattle.c5_definitions.specs.declared.script.ScriptKind.{ScriptKind}
@@ -11,13 +12,15 @@ use Rattle.c5_definitions.specs.Words.{Word, bare, quoted}
 -- the lines of bytes: a line ends with the byte `0A`, which the last may lack
 unfoldable pub lines_of : List ℕ → List (List ℕ)
 lines_of [] = []
-lines_of (byte ∷ bytes) = if byte == 10 then [] ∷ lines_of bytes else onto_first byte (lines_of bytes)
+lines_of (byte ∷ bytes) = if byte == 10 then [] ∷ lines_of bytes
+    else onto_first byte (lines_of bytes)
 
 -- the bytes behind so many lines
 unfoldable pub behind_lines : ℕ → List ℕ → List ℕ
 behind_lines zero bytes = bytes
 behind_lines (suc count) [] = []
-behind_lines (suc count) (byte ∷ bytes) = if byte == 10 then behind_lines count bytes else behind_lines (suc count) bytes
+behind_lines (suc count) (byte ∷ bytes) = if byte == 10 then behind_lines count bytes
+    else behind_lines (suc count) bytes
 
 -- ---- words
 
@@ -25,8 +28,8 @@ behind_lines (suc count) (byte ∷ bytes) = if byte == 10 then behind_lines coun
 abbrev pub is_line_byte : ℕ → Bool
 is_line_byte = is_between 32 126
 
--- where a byte of a line stands: between words, in a bare word or in a quoted text of which these bytes have
--- come, or right behind a quoted text
+-- where a byte of a line stands: between words, in a bare word or in a quoted text of which these
+-- bytes have come, or right behind a quoted text
 pub data LinePart : Type 0 where
   between : LinePart
   in_bare : List ℕ → LinePart
@@ -43,8 +46,9 @@ abbrev pub with_word : Word → Result (List Word) ScriptKind → Result (List W
 with_word word (Ok words) = Ok (word ∷ words)
 with_word word (Err kind) = Err kind
 
--- the words that begin or end in these bytes, of which the first stands at this place: blanks part them, a
--- quote opens and closes a quoted text, which a blank or the end follows, and stands nowhere else
+-- the words that begin or end in these bytes, of which the first stands at this place: blanks part
+-- them, a quote opens and closes a quoted text, which a blank or the end follows, and stands
+-- nowhere else
 unfoldable pub words_at : LinePart → List ℕ → Result (List Word) ScriptKind
 words_at between [] = Ok []
 words_at between (byte ∷ bytes) =
@@ -61,8 +65,10 @@ words_at (in_quoted come) (byte ∷ bytes) =
     if byte == 34 then with_word (quoted come) (words_at behind_quoted bytes)
     else words_at (in_quoted (come ++ byte ∷ [])) bytes
 words_at behind_quoted [] = Ok []
-words_at behind_quoted (byte ∷ bytes) = if byte == 32 then words_at between bytes else Err kinds.Quote
+words_at behind_quoted (byte ∷ bytes) = if byte == 32 then words_at between bytes
+    else Err kinds.Quote
 
--- the words of a line, or the first of its tests that fails: each byte is allowed, each quote is in its place
+-- the words of a line, or the first of its tests that fails: each byte is allowed, each quote is in
+-- its place
 unfoldable pub words_of : List ℕ → Result (List Word) ScriptKind
 words_of line = if list_all is_line_byte line then words_at between line else Err kinds.Byte

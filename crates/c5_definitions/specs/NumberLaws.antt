@@ -2,7 +2,9 @@
 use Rattle.std.specs.Prelude.{◌≡◌, ◌≢◌, ◌≤◌, ◌<◌, ◌+◌, ℕ, List, length, Some}
 use Rattle.c5_rows.specs.declared.writes.RowName.{RowName}
 use Rattle.c5_rows.specs.declared.writes.Txn.{Txn}
-use Rattle.c5_definitions.specs.WriteNumbers.{names_in, name_at, row_of, last_on_row, predecessor_of, end_of, place_below, owner_of, IsWrite, IsFirstWrite}
+use Rattle.c5_definitions.specs.WriteNumbers.{names_in, name_at, row_of, last_on_row}
+use Rattle.c5_definitions.specs.WriteNumbers.{predecessor_of, end_of, place_below, owner_of}
+use Rattle.c5_definitions.specs.WriteNumbers.{IsWrite, IsFirstWrite}
 
 -- a row's number is that of its first write, and two writes are on one row if they have one name
 pub record RowsAreNumbered (names : List RowName) : Type 0 where

@@ -1,5 +1,8 @@
--- Multiversion timestamp ordering: which commits conflict, which histories it allows, and their log.
-use Rattle.std.specs.Prelude.{◌≡◌, ◌==◌, ◌<◌, ◌≤◌, ◌+◌, ◌^◌, ℕ, Bool, false, ◌&&◌, nat_eq, nat_lt, if◌then◌else◌, List, [], ◌∷◌, ◌++◌, length, filter, map, Option, Some, None}
+-- Multiversion timestamp ordering: which commits conflict, which histories it allows, and their
+-- log.
+use Rattle.std.specs.Prelude.{◌≡◌, ◌==◌, ◌<◌, ◌≤◌, ◌+◌, ◌^◌, ℕ, Bool, false, ◌&&◌, nat_eq, nat_lt}
+use Rattle.std.specs.Prelude.{if◌then◌else◌, List, [], ◌∷◌, ◌++◌, length, filter, map, Option, Some}
+use Rattle.std.specs.Prelude.{None}
 use Rattle.std.specs.List.{All, Contains, IsDistinct, flat_map, list_all}
 use Rattle.std.specs.Map.{lookup}
 use Rattle.std.specs.Ordering.{is_eq, is_gt}
@@ -15,22 +18,26 @@ use Rattle.c5_definitions.specs.declared.history.OrderBase.{OrderBase}
 use Rattle.c5_definitions.specs.Follows.{Follows}
 use Rattle.c5_definitions.specs.Lawful.{StampsRise}
 use Rattle.c5_definitions.specs.SerialRun.{body_at, serial_txns, script_numbers, AreAlike}
-use Rattle.c5_definitions.specs.History.{Begun, VersionRead, begun, commits, open_txns, last_stamp, version_at, reads, answered}
+use Rattle.c5_definitions.specs.History.{Begun, VersionRead, begun, commits, open_txns, last_stamp}
+use Rattle.c5_definitions.specs.History.{version_at, reads, answered}
 
 -- ---- conflicts
 
--- a row that a transaction would write, and a later stamp that has read the version before that write
+-- a row that a transaction would write, and a later stamp that has read the version before that
+-- write
 pub record Conflict : Type 0 where
   pub row : RowName
   pub reader : ℕ
 
 -- whether a later stamp than s has read this version of the row
 abbrev pub reads_version : RowName → ℕ → ℕ → VersionRead → Bool
-reads_version name s version r = is_eq (row_name_cmp r.name name) && nat_lt s r.reader && (r.version == version)
+reads_version name s version r = is_eq (row_name_cmp r.name name) && nat_lt s r.reader
+    && (r.version == version)
 
 abbrev pub conflicts_on : List Entry → ℕ → Write → List Conflict
 conflicts_on history s write =
-    map (λ r. record { row = write.name; reader = r.reader }) (filter (reads_version write.name s (version_at history write.name s)) (reads history))
+    map (λ r. record { row = write.name; reader = r.reader })
+    (filter (reads_version write.name s (version_at history write.name s)) (reads history))
 
 -- all conflicts of these writes at the stamp s
 unfoldable pub conflicts : List Entry → ℕ → List Write → List Conflict
@@ -50,16 +57,19 @@ txn_of b (Some writes) = record { script = b.script; stamp = b.stamp; writes = w
 
 -- the committed transactions, in the order in which their stamps were begun
 unfoldable pub committed : List Entry → List Txn
-committed history = flat_map (λ b. txn_of b (lookup (λ stamp. stamp == b.stamp) (commits history))) (begun history)
+committed history = flat_map (λ b. txn_of b (lookup (λ stamp. stamp == b.stamp) (commits history)))
+    (begun history)
 
 -- those of them that are below every open stamp
-unfoldable pub log_of : List Entry → List Txn
-log_of history = filter (λ txn. list_all (λ b. nat_lt txn.stamp b.stamp) (open_txns history)) (committed history)
+unfoldable pub history_log : List Entry → List Txn
+history_log history = filter (λ txn. list_all (λ b. nat_lt txn.stamp b.stamp) (open_txns history))
+    (committed history)
 
 -- the stamp of the committed transaction of a body, and that of an open one
 abbrev pub committed_stamp : ℕ → List Txn → Option ℕ
 committed_stamp script [] = None
-committed_stamp script (txn ∷ txns) = if txn.script == script then Some txn.stamp else committed_stamp script txns
+committed_stamp script (txn ∷ txns) = if txn.script == script then Some txn.stamp
+    else committed_stamp script txns
 
 abbrev pub open_stamp : ℕ → List Begun → Option ℕ
 open_stamp script [] = None
@@ -73,10 +83,12 @@ IsOpen history b = Contains (open_txns history) b
 
 -- the writes are those that the body of the transaction gives on its reads
 abbrev pub IsOutcome : OrderBase → List Entry → Begun → List Write → Type 0
-IsOutcome base history b writes = (declined : Bool) × Follows (body_at base.bodies b.script) (answered base.start history b.stamp) declined writes
+IsOutcome base history b writes = (declined : Bool)
+    × Follows (body_at base.bodies b.script) (answered base.start history b.stamp) declined writes
 
 -- the next stamp, for a body that has no open or committed one
-pub record BeginsNext (base : OrderBase) (history : List Entry) (stamp : ℕ) (script : ℕ) : Type 0 where
+pub record BeginsNext (base : OrderBase) (history : List Entry) (stamp : ℕ)
+    (script : ℕ) : Type 0 where
   pub script_known : script < length base.bodies
   pub not_committed : committed_stamp script (committed history) ≡ None
   pub not_open : open_stamp script (open_txns history) ≡ None
@@ -86,24 +98,27 @@ pub record BeginsNext (base : OrderBase) (history : List Entry) (stamp : ℕ) (s
 -- the entry is one that timestamp ordering allows after this history
 abbrev pub Allows : OrderBase → List Entry → ℕ → ℕ → Event → Type 0
 Allows base history caller stamp (events.Begin script) = BeginsNext base history stamp script
-Allows base history caller stamp (events.Read name) = (script : ℕ) × IsOpen history (record { caller = caller; stamp = stamp; script = script })
+Allows base history caller stamp (events.Read name) = (script : ℕ)
+    × IsOpen history (record { caller = caller; stamp = stamp; script = script })
 Allows base history caller stamp (events.Commit writes) =
     (script : ℕ) × IsOpen history (record { caller = caller; stamp = stamp; script = script })
     × IsOutcome base history (record { caller = caller; stamp = stamp; script = script }) writes
     × IsAscending writes × (conflicts history stamp writes ≡ [])
-Allows base history caller stamp events.Cancel = (script : ℕ) × IsOpen history (record { caller = caller; stamp = stamp; script = script })
+Allows base history caller stamp events.Cancel = (script : ℕ)
+    × IsOpen history (record { caller = caller; stamp = stamp; script = script })
 
 -- each of the entries, which follow on others, is allowed after all before it
 abbrev pub AllowsFrom : OrderBase → List Entry → List Entry → Type 0
 AllowsFrom base before [] = Unit {0}
-AllowsFrom base before (entry ∷ history) = Allows base before entry.caller entry.stamp entry.event × AllowsFrom base (before ++ entry ∷ []) history
+AllowsFrom base before (entry ∷ history) = Allows base before entry.caller entry.stamp entry.event
+    × AllowsFrom base (before ++ entry ∷ []) history
 
 -- a history that timestamp ordering allows
 unfoldable pub IsOrderHistory : OrderBase → List Entry → Type 0
 IsOrderHistory base history = AllowsFrom base [] history
 
--- transactions whose stamps ascend from the last one before them, of bodies that each come once, and with the writes that
--- these give one after the other
+-- transactions whose stamps ascend from the last one before them, of bodies that each come once,
+-- and with the writes that these give one after the other
 pub record IsStampOrderRun (base : OrderBase) (txns : List Txn) : Type 0 where
   pub stamps : StampsRise base.last txns
   pub known : All (λ txn. txn.script < length base.bodies) txns

@@ -1,5 +1,6 @@
 -- The texts of orders and replies, and all that `clone` and `backup` print.
-use Rattle.std.specs.Prelude.{◌≡◌, ◌≤◌, ◌<◌, ◌+◌, ◌-◌, ◌^◌, ℕ, List, [], ◌∷◌, ◌++◌, codes, decimal, length}
+use Rattle.std.specs.Prelude.{◌≡◌, ◌≤◌, ◌<◌, ◌+◌, ◌-◌, ◌^◌, ℕ, List, [], ◌∷◌, ◌++◌, codes, decimal}
+use Rattle.std.specs.Prelude.{length}
 use Rattle.std.specs.FinMap.{empty}
 use Rattle.std.specs.Fmt.{signed_decimal}
 use Rattle.std.specs.List.{AllByRecursion, flat_map}
@@ -56,7 +57,8 @@ reply_text tables total reply =
 abbrev pub no_rows : State
 no_rows = empty {R = row_name_cmp}
 
--- what `backup` prints of a script's reads at these places: the replies, and the rows after all transactions
+-- what `backup` prints of a script's reads at these places: the replies, and the rows after all
+-- transactions
 abbrev pub backup_text : ScriptParts → List Txn → List ℕ → List ℕ
 backup_text script txns places =
     flat_map (reply_text script.tables (length txns))
@@ -82,7 +84,8 @@ HasItsLines tables read =
 abbrev pub AreU32 : List ℕ → Type 0
 AreU32 numbers = AllByRecursion (λ n. n < 2 ^ 32) numbers
 
--- numbers of 32 bits, fewer than 2^32 of them, and for each read a place that is at most their count
+-- numbers of 32 bits, fewer than 2^32 of them, and for each read a place that is at most their
+-- count
 pub record AreOrderAndPlaces (script : ScriptParts) (order places : List ℕ) : Type 0 where
   pub numbers : AreU32 order
   pub few : length order < 2 ^ 32

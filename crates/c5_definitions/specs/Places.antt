@@ -1,5 +1,6 @@
 -- The test of a word by its place on the line.
-use Rattle.std.specs.Prelude.{ℕ, ℤ, ◌-◌, ◌==◌, pos, negsuc, is_some, codes, List, [], ◌∷◌, length, slice_get, Option, Some, None, Result, Ok, Err, if◌then◌else◌}
+use Rattle.std.specs.Prelude.{ℕ, ℤ, ◌-◌, ◌==◌, pos, negsuc, is_some, codes, List, [], ◌∷◌, length}
+use Rattle.std.specs.Prelude.{slice_get, Option, Some, None, Result, Ok, Err, if◌then◌else◌}
 use Rattle.std.specs.Str.{bytes_eq}
 use Rattle.c5_rows.specs.Bytes.{checked_bytes, is_between, is_key_byte, is_name_byte, is_text_byte}
 use Rattle.c5_rows.specs.Tables.{table_number}
@@ -28,7 +29,9 @@ found_or cause None = Err cause
 -- the name of a new table
 unfoldable pub new_name_in : List TableDef → Word → Result (List ℕ) ScriptKind
 new_name_in tables (quoted text) = Err kinds.Name
-new_name_in tables (bare bytes) = or_cause kinds.Name (checked_bytes 1 max_name_bytes is_name_byte bytes) >>= λ name. if is_some (table_number name tables) then Err kinds.Name else Ok name
+new_name_in tables (bare bytes) =
+    or_cause kinds.Name (checked_bytes 1 max_name_bytes is_name_byte bytes)
+    >>= λ name. if is_some (table_number name tables) then Err kinds.Name else Ok name
 
 -- the type of a column
 unfoldable pub type_in : Word → Result CellType ScriptKind
@@ -64,7 +67,9 @@ int_in (bare bytes) = found_or kinds.Number (int_of_digits bytes)
 unfoldable pub cell_in : CellType → Word → Result Cell ScriptKind
 cell_in types.Int (quoted text) = Err kinds.WrongType
 cell_in types.Int (bare bytes) = found_or kinds.Number (int_of_digits bytes) >>= λ n. Ok (Int n)
-cell_in types.Text (quoted text) = or_cause kinds.Limit (checked_bytes 0 max_text_bytes is_text_byte text) >>= λ bytes. Ok (Txt bytes)
+cell_in types.Text (quoted text) =
+    or_cause kinds.Limit (checked_bytes 0 max_text_bytes is_text_byte text)
+    >>= λ bytes. Ok (Txt bytes)
 cell_in types.Text (bare bytes) = Err kinds.WrongType
 
 -- the columns of the table of this number
@@ -78,13 +83,15 @@ of_whole_numbers column types.Text = Err kinds.WrongType
 
 -- the column of this number, which has to be one of whole numbers
 unfoldable pub int_column_of : List CellType → ℕ → Result ℕ ScriptKind
-int_column_of columns column = found_or kinds.Column (slice_get columns column) >>= of_whole_numbers column
+int_column_of columns column = found_or kinds.Column (slice_get columns column)
+    >>= of_whole_numbers column
 
 -- one digit, which is the number of a column of whole numbers
 unfoldable pub column_in : List CellType → Word → Result ℕ ScriptKind
 column_in columns (quoted text) = Err kinds.Column
 column_in columns (bare []) = Err kinds.Column
-column_in columns (bare (digit ∷ [])) = if is_digit digit then int_column_of columns (digit - 48) else Err kinds.Column
+column_in columns (bare (digit ∷ [])) = if is_digit digit then int_column_of columns (digit - 48)
+    else Err kinds.Column
 column_in columns (bare (digit ∷ other ∷ rest)) = Err kinds.Column
 
 -- how to compare
@@ -113,14 +120,16 @@ turn_in (quoted text) = Err kinds.Number
 turn_in (bare []) = Err kinds.Number
 turn_in (bare (first ∷ rest)) =
     if first == 119 then (found_or kinds.Number (turn_number_of rest) >>= λ n. Ok (turns.Worker n))
-    else (if first == 115 then (found_or kinds.Number (turn_number_of rest) >>= λ n. Ok (turns.Session n))
+    else (if first == 115
+    then (found_or kinds.Number (turn_number_of rest) >>= λ n. Ok (turns.Session n))
     else (if bytes_eq (first ∷ rest) (codes "v") then Ok turns.Visible
     else Err kinds.Number))
 
 -- ---- words that stand one behind the other, tested from left to right
 
 -- words that all pass the same test
-unfoldable pub each_in : {A : Type 0} → (Word → Result A ScriptKind) → List Word → Result (List A) ScriptKind
+unfoldable pub each_in : {A : Type 0} → (Word → Result A ScriptKind) → List Word
+    → Result (List A) ScriptKind
 each_in test [] = Ok []
 each_in test (word ∷ words) = do
   first ← test word
@@ -136,6 +145,8 @@ cells_in (column ∷ columns) (word ∷ words) = do
   others ← cells_in columns words
   Ok (first ∷ others)
 
--- the cells of a row: one for each column, and another number of words is a fault before the first of them
+-- the cells of a row: one for each column, and another number of words is a fault before the first
+-- of them
 unfoldable pub row_in : List CellType → List Word → Result (List Cell) ScriptKind
-row_in columns words = if length words == length columns then cells_in columns words else Err kinds.Count
+row_in columns words = if length words == length columns then cells_in columns words
+    else Err kinds.Count

@@ -1,6 +1,7 @@
 -- The index of rows: a table of buckets, in which each row's first write has a slot of its own.
 use Prim.Native.Nat.{zero, suc}
-use Rattle.std.specs.Prelude.{◌≡◌, ◌<◌, ◌+◌, ◌*◌, ◌%◌, ◌^◌, ◌==◌, ℕ, bit_xor, nat_le, List, ◌∷◌, length, replicate, slice_index, slice_set, Some, None, if◌then◌else◌}
+use Rattle.std.specs.Prelude.{◌≡◌, ◌<◌, ◌+◌, ◌*◌, ◌%◌, ◌^◌, ◌==◌, ℕ, bit_xor, nat_le, List, ◌∷◌}
+use Rattle.std.specs.Prelude.{length, replicate, slice_index, slice_set, Some, None, if◌then◌else◌}
 use Rattle.std.specs.List.{fold}
 use Rattle.c5_rows.specs.declared.writes.RowName.{RowName}
 use Rattle.c5_definitions.specs.Searches.{least_up_to}
@@ -39,7 +40,8 @@ free_from index (suc left) j = if slice_index index j == 0 then j
 
 -- where the path of w's name begins
 unfoldable pub start_of_write : List RowName → ℕ → ℕ → ℕ
-start_of_write names buckets w = elim (name_at names w) [ None ↦ 0 | Some name ↦ start_of buckets name ]
+start_of_write names buckets w =
+    elim (name_at names w) [ None ↦ 0 | Some name ↦ start_of buckets name ]
 
 -- the index with w in it: a first write takes the first free bucket of its path
 unfoldable pub index_with : List RowName → List ℕ → ℕ → List ℕ

@@ -6,7 +6,8 @@ use Rattle.c5_definitions.specs.declared.script.ReadLine.{ReadLine}
 use Rattle.c5_definitions.specs.declared.script.TurnWord.{TurnWord}
 use Rattle.c5_definitions.specs.ScriptParts.{ReadParts, ScriptParts}
 
--- the open block: none, a transaction with its statements, or a read block with its session and its lines
+-- the open block: none, a transaction with its statements, or a read block with its session and its
+-- lines
 pub data Block : Type 0 where
   outside : Block
   in_txn : (statements : List Statement) → Block

@@ -30,7 +30,8 @@ spelled_type types.Text = 2
 
 -- the length of the name, the name, the number of columns, their types
 abbrev pub spelled_table : TableDef → List ℕ
-spelled_table table = length table.name ∷ table.name ++ length table.columns ∷ map spelled_type table.columns
+spelled_table table = length table.name ∷ table.name
+    ++ length table.columns ∷ map spelled_type table.columns
 
 -- the magic, the number of tables, the tables
 unfoldable pub spelled_header : List TableDef → List ℕ
@@ -48,11 +49,13 @@ spelled_change Gone = 1 ∷ []
 
 -- `W`, the table, the length of the key, the key, the change
 unfoldable pub write_payload : Write → List ℕ
-write_payload write = 87 ∷ write.name.table ∷ length write.name.key ∷ write.name.key ++ spelled_change write.change
+write_payload write = 87 ∷ write.name.table ∷ length write.name.key ∷ write.name.key
+    ++ spelled_change write.change
 
 -- `C`, the script number, the stamp, the number of writes
 unfoldable pub mark_payload : Txn → List ℕ
-mark_payload txn = 67 ∷ spelled_u32 txn.script ++ spelled_u64 txn.stamp ++ spelled_u32 (length txn.writes)
+mark_payload txn = 67 ∷ spelled_u32 txn.script ++ spelled_u64 txn.stamp
+    ++ spelled_u32 (length txn.writes)
 
 -- `E`, the number of transactions
 unfoldable pub end_payload : ℕ → List ℕ
@@ -64,8 +67,10 @@ spelled_frame payload = spelled_u32 (length payload) ++ payload
 
 -- a frame for each write, and one for the commit mark
 unfoldable pub spelled_txn : Txn → List ℕ
-spelled_txn txn = flat_map (λ write. spelled_frame (write_payload write)) txn.writes ++ spelled_frame (mark_payload txn)
+spelled_txn txn = flat_map (λ write. spelled_frame (write_payload write)) txn.writes
+    ++ spelled_frame (mark_payload txn)
 
 -- the header, the transactions, and a frame for the end mark
 unfoldable pub spelled_log : List TableDef → List Txn → List ℕ
-spelled_log tables txns = spelled_header tables ++ flat_map spelled_txn txns ++ spelled_frame (end_payload (length txns))
+spelled_log tables txns = spelled_header tables ++ flat_map spelled_txn txns
+    ++ spelled_frame (end_payload (length txns))

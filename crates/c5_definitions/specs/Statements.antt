@@ -1,11 +1,13 @@
 -- The lines of a script: where each is known, how many words it has, and what it adds.
 --
--- A line is known by its first word. Then the limits are tested, then the number of its words, and then its words
--- from left to right. The definitions here have the words behind the first one.
-use Rattle.std.specs.Prelude.{ℕ, ◌+◌, ◌&&◌, ◌||◌, Bool, false, nat_lt, nat_le, codes, List, [], ◌∷◌, ◌++◌, length, Result, Ok, Err, if◌then◌else◌}
+-- A line is known by its first word. Then the limits are tested, then the number of its words, and
+-- then its words from left to right. The definitions here have the words behind the first one.
+use Rattle.std.specs.Prelude.{ℕ, ◌+◌, ◌&&◌, ◌||◌, Bool, false, nat_lt, nat_le, codes, List, [], ◌∷◌}
+use Rattle.std.specs.Prelude.{◌++◌, length, Result, Ok, Err, if◌then◌else◌}
 use Rattle.std.specs.Str.{bytes_eq}
 use Rattle.c5_rows.specs.declared.tables.TableDef.{TableDef}
-use Rattle.c5_rows.specs.Sizes.{max_tables, max_columns, max_reads, max_turn_words, max_statements, max_read_lines, max_sum_keys}
+use Rattle.c5_rows.specs.Sizes.{max_tables, max_columns, max_reads, max_turn_words, max_statements}
+use Rattle.c5_rows.specs.Sizes.{max_read_lines, max_sum_keys}
 use Rattle.c5_definitions.specs.declared.script.Statement.{Statement}
 use Rattle.c5_definitions.specs.declared.script.Statement.TheVariants.{Put, Del, Need, Add, Copy}
 use Rattle.c5_definitions.specs.declared.script.ReadLine.{ReadLine}
@@ -15,8 +17,11 @@ use Rattle.c5_definitions.specs.declared.script.ScriptKind.{ScriptKind}
 use Rattle.c5_definitions.specs.declared.script.ScriptKind.TheVariants as kinds
 use Rattle.c5_definitions.specs.Steps.{◌>>=◌}
 use Rattle.c5_definitions.specs.Words.{Word, bare, quoted}
-use Rattle.c5_definitions.specs.ScriptSoFar.{ScriptSoFar, Block, outside, in_txn, in_read, is_outside, has_table, is_heading}
-use Rattle.c5_definitions.specs.Places.{new_name_in, type_in, table_in, key_in, row_name_in, int_in, row_in, columns_of, column_in, rel_in, session_in, turn_in, each_in}
+use Rattle.c5_definitions.specs.ScriptSoFar.{ScriptSoFar, Block, outside, in_txn, in_read}
+use Rattle.c5_definitions.specs.ScriptSoFar.{is_outside, has_table, is_heading}
+use Rattle.c5_definitions.specs.Places.{new_name_in, type_in, table_in, key_in, row_name_in, int_in}
+use Rattle.c5_definitions.specs.Places.{row_in, columns_of, column_in, rel_in, session_in, turn_in}
+use Rattle.c5_definitions.specs.Places.{each_in}
 
 -- ---- outside blocks
 
@@ -33,11 +38,13 @@ table_words tables _ = Err kinds.Count
 
 -- as long as there is room for one more table; a table has a limit of columns
 unfoldable pub table_line : List TableDef → List Word → Result TableDef ScriptKind
-table_line tables words = if nat_le max_tables (length tables) || nat_lt (1 + max_columns) (length words) then Err kinds.Limit else table_words tables words
+table_line tables words = if nat_le max_tables (length tables)
+    || nat_lt (1 + max_columns) (length words) then Err kinds.Limit else table_words tables words
 
 -- a line that adds a table
 unfoldable pub heading_line : ScriptSoFar → List Word → Result ScriptSoFar ScriptKind
-heading_line s words = table_line s.tables words >>= λ new. Ok (record s { tables = s.tables ++ new ∷ [] })
+heading_line s words = table_line s.tables words
+    >>= λ new. Ok (record s { tables = s.tables ++ new ∷ [] })
 
 -- `txn`
 unfoldable pub txn_words : List Word → Result Block ScriptKind
@@ -60,14 +67,18 @@ turns_words (word ∷ words) = each_in turn_in (word ∷ words)
 
 -- after so many turn words, as long as there is room for these
 unfoldable pub turns_line : ℕ → List Word → Result (List TurnWord) ScriptKind
-turns_line count words = if nat_lt max_turn_words (count + length words) then Err kinds.Limit else turns_words words
+turns_line count words = if nat_lt max_turn_words (count + length words) then Err kinds.Limit
+    else turns_words words
 
 -- a line that is known once a table stands
 unfoldable pub standing_line : ScriptSoFar → List ℕ → List Word → Result ScriptSoFar ScriptKind
 standing_line s first words =
-    if bytes_eq first (codes "txn") then (txn_words words >>= λ block. Ok (record s { block = block }))
-    else (if bytes_eq first (codes "read") then (read_line (length s.reads) words >>= λ block. Ok (record s { block = block }))
-    else (if bytes_eq first (codes "turns") then (turns_line (length s.turns) words >>= λ new. Ok (record s { turns = s.turns ++ new }))
+    if bytes_eq first (codes "txn")
+    then (txn_words words >>= λ block. Ok (record s { block = block }))
+    else (if bytes_eq first (codes "read")
+    then (read_line (length s.reads) words >>= λ block. Ok (record s { block = block }))
+    else (if bytes_eq first (codes "turns")
+    then (turns_line (length s.turns) words >>= λ new. Ok (record s { turns = s.turns ++ new }))
     else Err kinds.Word))
 
 -- a table is known before the first transaction, read block or schedule
@@ -148,7 +159,9 @@ statement_words copy tables words = copy_words tables words
 
 -- after so many statements, as long as there is room for one more
 unfoldable pub statement_line : List TableDef → ℕ → List ℕ → List Word → Result Statement ScriptKind
-statement_line tables count first words = form_of first >>= λ form. if nat_le max_statements count then Err kinds.Limit else statement_words form tables words
+statement_line tables count first words =
+    form_of first >>= λ form. if nat_le max_statements count then Err kinds.Limit
+    else statement_words form tables words
 
 -- ---- in a read block
 
@@ -169,8 +182,11 @@ sum_words tables _ = Err kinds.Count
 -- after so many lines, as long as there is room for one more; a sum has a limit of keys
 unfoldable pub question_line : List TableDef → ℕ → List ℕ → List Word → Result ReadLine ScriptKind
 question_line tables count first words =
-    if bytes_eq first (codes "row") then (if nat_le max_read_lines count then Err kinds.Limit else row_words tables words)
-    else (if bytes_eq first (codes "sum") then (if nat_le max_read_lines count || nat_lt (2 + max_sum_keys) (length words) then Err kinds.Limit else sum_words tables words)
+    if bytes_eq first (codes "row")
+    then (if nat_le max_read_lines count then Err kinds.Limit else row_words tables words)
+    else (if bytes_eq first (codes "sum")
+    then (if nat_le max_read_lines count || nat_lt (2 + max_sum_keys) (length words)
+    then Err kinds.Limit else sum_words tables words)
     else Err kinds.Word)
 
 -- ---- any line
@@ -178,17 +194,26 @@ question_line tables count first words =
 -- `end`, which closes a block; a read block has at least one line
 unfoldable pub end_line : Block → ScriptSoFar → List Word → Result ScriptSoFar ScriptKind
 end_line outside s words = Err kinds.Word
-end_line (in_txn statements) s [] = Ok (record s { bodies = s.bodies ++ statements ∷ []; block = outside })
+end_line (in_txn statements) s [] =
+    Ok (record s { bodies = s.bodies ++ statements ∷ []; block = outside })
 end_line (in_txn statements) s (word ∷ words) = Err kinds.Count
 end_line (in_read session []) s words = Err kinds.Limit
-end_line (in_read session (line ∷ lines)) s [] = Ok (record s { reads = s.reads ++ record { session = session; lines = line ∷ lines } ∷ []; block = outside })
+end_line (in_read session (line ∷ lines)) s [] =
+    Ok (record s {
+      reads = s.reads ++ record { session = session; lines = line ∷ lines } ∷ [];
+      block = outside;
+    })
 end_line (in_read session (line ∷ lines)) s (word ∷ words) = Err kinds.Count
 
 -- a line of a transaction or of a read block that doesn't close it
 unfoldable pub inside_line : Block → List TableDef → List ℕ → List Word → Result Block ScriptKind
 inside_line outside tables first words = Err kinds.Word
-inside_line (in_txn statements) tables first words = statement_line tables (length statements) first words >>= λ new. Ok (in_txn (statements ++ new ∷ []))
-inside_line (in_read session lines) tables first words = question_line tables (length lines) first words >>= λ new. Ok (in_read session (lines ++ new ∷ []))
+inside_line (in_txn statements) tables first words =
+    statement_line tables (length statements) first words
+    >>= λ new. Ok (in_txn (statements ++ new ∷ []))
+inside_line (in_read session lines) tables first words =
+    question_line tables (length lines) first words
+    >>= λ new. Ok (in_read session (lines ++ new ∷ []))
 
 -- a line whose first word is this one
 unfoldable pub known_line : ScriptSoFar → List ℕ → List Word → Result ScriptSoFar ScriptKind
@@ -214,7 +239,8 @@ pub data FrontLine : Type 0 where
 abbrev pub is_log_line : ScriptSoFar → List Word → Bool
 is_log_line s [] = false
 is_log_line s (quoted text ∷ words) = false
-is_log_line s (bare first ∷ words) = bytes_eq first (codes "log") && is_outside s.block && has_table s
+is_log_line s (bare first ∷ words) = bytes_eq first (codes "log") && is_outside s.block
+    && has_table s
 
 -- `log` stands alone
 unfoldable pub log_line : List Word → Result FrontLine ScriptKind
@@ -223,4 +249,5 @@ log_line _ = Err kinds.Count
 
 -- after a line of these words, which may be the one that ends the script
 unfoldable pub after_front_line : ScriptSoFar → List Word → Result FrontLine ScriptKind
-after_front_line s words = if is_log_line s words then log_line words else (after_line s words >>= λ next. Ok (goes_on next))
+after_front_line s words = if is_log_line s words then log_line words
+    else (after_line s words >>= λ next. Ok (goes_on next))

@@ -1,5 +1,6 @@
 -- The texts of rows.
-use Rattle.std.specs.Prelude.{ℕ, List, [], ◌∷◌, ◌++◌, length, codes, decimal, slice_get, Option, Some, None}
+use Rattle.std.specs.Prelude.{ℕ, List, [], ◌∷◌, ◌++◌, length, codes, decimal, slice_get, Option}
+use Rattle.std.specs.Prelude.{Some, None}
 use Rattle.std.specs.Fmt.{signed_decimal}
 use Rattle.std.specs.List.{flat_map}
 use Rattle.c5_rows.specs.declared.cells.Cell.{Cell}
@@ -26,7 +27,8 @@ name_text tables name = table_name_text (slice_get tables name.table) ++ 32 ∷ 
 
 -- the table's name, the key and the cells, with a blank before each but the first
 abbrev pub line_text : List TableDef → RowEntry → List ℕ
-line_text tables entry = name_text tables entry.name ++ flat_map (λ cell. 32 ∷ cell_text cell) entry.row
+line_text tables entry = name_text tables entry.name
+    ++ flat_map (λ cell. 32 ∷ cell_text cell) entry.row
 
 -- the same with a line end
 abbrev pub row_line : List TableDef → RowEntry → List ℕ

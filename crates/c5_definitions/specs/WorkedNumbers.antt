@@ -3,7 +3,8 @@ use Rattle.std.specs.Prelude.{◌≡◌, ℕ, List, [], ◌∷◌, map, codes}
 use Rattle.c5_rows.specs.declared.writes.RowName.{RowName}
 use Rattle.c5_rows.specs.declared.writes.Change.TheVariants.{Gone}
 use Rattle.c5_rows.specs.declared.writes.Txn.{Txn}
-use Rattle.c5_definitions.specs.WriteNumbers.{names_in, row_of, predecessor_of, last_on_row, end_of, place_below, owner_of}
+use Rattle.c5_definitions.specs.WriteNumbers.{names_in, row_of, predecessor_of, last_on_row, end_of}
+use Rattle.c5_definitions.specs.WriteNumbers.{place_below, owner_of}
 use Rattle.c5_definitions.specs.RowIndex.{bucket_count, fnv_1a, start_of, first_in_bucket}
 
 -- the row of table 0 with this key
@@ -35,8 +36,8 @@ abbrev pub names_two_by_two : List RowName
 names_two_by_two = names_in two_by_two
 
 -- one key in two tables: two rows
-abbrev pub two_tables : List RowName
-two_tables = record { table = 0; key = codes "a" } ∷ record { table = 1; key = codes "a" } ∷ []
+abbrev pub two_table_names : List RowName
+two_table_names = record { table = 0; key = codes "a" } ∷ record { table = 1; key = codes "a" } ∷ []
 
 -- what was worked by hand of the logs
 pub record AreNumbered : Type 0 where
@@ -49,7 +50,7 @@ pub record AreNumbered : Type 0 where
   pub ends : map (end_of two_by_two) (0 ∷ 1 ∷ 2 ∷ 3 ∷ []) ≡ 0 ∷ 2 ∷ 2 ∷ 4 ∷ []
   pub places : map (place_below two_by_two) (1 ∷ 2 ∷ 3 ∷ 4 ∷ 5 ∷ 6 ∷ [])
       ≡ 0 ∷ 0 ∷ 2 ∷ 2 ∷ 3 ∷ 3 ∷ []
-  pub rows_of_two_tables : map (row_of two_tables) (1 ∷ 2 ∷ []) ≡ 1 ∷ 2 ∷ []
+  pub rows_of_two_tables : map (row_of two_table_names) (1 ∷ 2 ∷ []) ≡ 1 ∷ 2 ∷ []
   pub owners : map (owner_of 3) (1 ∷ 2 ∷ 3 ∷ 4 ∷ 5 ∷ 6 ∷ 7 ∷ []) ≡ 1 ∷ 2 ∷ 3 ∷ 1 ∷ 2 ∷ 3 ∷ 1 ∷ []
 
 -- two rows whose paths begin at bucket 2 of 4: the second goes to bucket 3

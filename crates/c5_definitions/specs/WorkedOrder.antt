@@ -26,7 +26,12 @@ write_x n = record { name = row_x; change = Put (Int (pos n) ∷ []) }
 
 -- from no rows: body 0 puts 1 into the row, and body 1 needs it to be at least 0
 abbrev pub read_base : OrderBase
-read_base = record { bodies = (put_x 1 ∷ []) ∷ (statements.Need row_x 0 Ge (pos 0) ∷ []) ∷ []; start = empty; last = 0 }
+read_base =
+    record {
+      bodies = (put_x 1 ∷ []) ∷ (statements.Need row_x 0 Ge (pos 0) ∷ []) ∷ [];
+      start = empty;
+      last = 0;
+    }
 
 -- stamp 1 is begun for body 0, stamp 2 for body 1, and stamp 2 reads the row
 abbrev pub read_by_later : List Entry
@@ -62,4 +67,5 @@ later_first =
 
 -- and then stamp 1 commits
 abbrev pub both_committed : List Entry
-both_committed = later_first ++ record { caller = 1; stamp = 1; event = events.Commit (write_x 1 ∷ []) } ∷ []
+both_committed =
+    later_first ++ record { caller = 1; stamp = 1; event = events.Commit (write_x 1 ∷ []) } ∷ []

@@ -1,5 +1,6 @@
 -- What statements, bodies, read blocks and serial runs do, worked out by hand.
-use Rattle.std.specs.Prelude.{◌≡◌, ◌-◌, ◌^◌, ℕ, ℤ, pos, negsuc, Bool, true, false, codes, List, [], ◌∷◌, Option, Some, None}
+use Rattle.std.specs.Prelude.{◌≡◌, ◌-◌, ◌^◌, ℕ, ℤ, pos, negsuc, Bool, true, false, codes, List, []}
+use Rattle.std.specs.Prelude.{◌∷◌, Option, Some, None}
 use Rattle.std.specs.FinMap.{empty, insert}
 use Rattle.std.specs.List.{AllByRecursion}
 use Rattle.c5_rows.specs.declared.cells.Cell.{Cell}
@@ -58,16 +59,39 @@ gone_of key = record { name = at key; change = changes.Gone }
 abbrev pub statement_cases : List BodyCase
 statement_cases =
     record { body = []; ends = wrote [] } ∷  -- no statements
-    record { body = Put (at (codes "c")) (int_row (pos 7)) ∷ []; ends = wrote (put_of (codes "c") (pos 7) ∷ []) } ∷  -- a new row
-    record { body = Put (at (codes "a")) (int_row (pos 10)) ∷ []; ends = wrote (put_of (codes "a") (pos 10) ∷ []) } ∷  -- a row as it was
+    -- a new row
+    record {
+      body = Put (at (codes "c")) (int_row (pos 7)) ∷ [];
+      ends = wrote (put_of (codes "c") (pos 7) ∷ []);
+    } ∷
+    -- a row as it was
+    record {
+      body = Put (at (codes "a")) (int_row (pos 10)) ∷ [];
+      ends = wrote (put_of (codes "a") (pos 10) ∷ []);
+    } ∷
     record { body = Del (at (codes "a")) ∷ []; ends = wrote (gone_of (codes "a") ∷ []) } ∷  -- a row
-    record { body = Del (at (codes "z")) ∷ []; ends = wrote (gone_of (codes "z") ∷ []) } ∷  -- an absent row
-    record { body = Add (at (codes "a")) 0 (pos 5) ∷ []; ends = wrote (put_of (codes "a") (pos 15) ∷ []) } ∷
-    record { body = Add (at (codes "b")) 0 (pos 3) ∷ []; ends = wrote (put_of (codes "b") (pos 0) ∷ []) } ∷  -- from below 0 to 0
+    -- an absent row
+    record { body = Del (at (codes "z")) ∷ []; ends = wrote (gone_of (codes "z") ∷ []) } ∷
+    record {
+      body = Add (at (codes "a")) 0 (pos 5) ∷ [];
+      ends = wrote (put_of (codes "a") (pos 15) ∷ []);
+    } ∷
+    -- from below 0 to 0
+    record {
+      body = Add (at (codes "b")) 0 (pos 3) ∷ [];
+      ends = wrote (put_of (codes "b") (pos 0) ∷ []);
+    } ∷
     record { body = Add (at (codes "z")) 0 (pos 5) ∷ []; ends = declined } ∷  -- an absent row
     record { body = Add (at (codes "m")) 0 (pos 1) ∷ []; ends = declined } ∷  -- a sum past 64 bits
-    record { body = Copy (at (codes "a")) (at (codes "c")) ∷ []; ends = wrote (put_of (codes "c") (pos 10) ∷ []) } ∷
-    record { body = Copy (at (codes "z")) (at (codes "a")) ∷ []; ends = wrote (gone_of (codes "a") ∷ []) } ∷  -- of an absent row
+    record {
+      body = Copy (at (codes "a")) (at (codes "c")) ∷ [];
+      ends = wrote (put_of (codes "c") (pos 10) ∷ []);
+    } ∷
+    -- of an absent row
+    record {
+      body = Copy (at (codes "z")) (at (codes "a")) ∷ [];
+      ends = wrote (gone_of (codes "a") ∷ []);
+    } ∷
     []
 
 -- each relation below, at and above the number, and on an absent row
@@ -88,7 +112,8 @@ need_cases =
 
 -- two bodies: `c` becomes 7; and `c` grows by 1
 abbrev pub run_bodies : List (List Statement)
-run_bodies = (Put (at (codes "c")) (int_row (pos 7)) ∷ []) ∷ (Add (at (codes "c")) 0 (pos 1) ∷ []) ∷ []
+run_bodies = (Put (at (codes "c")) (int_row (pos 7)) ∷ []) ∷ (Add (at (codes "c")) 0 (pos 1) ∷ [])
+    ∷ []
 
 -- the first before the second
 abbrev pub run_in_order : List Txn
@@ -106,15 +131,22 @@ run_reversed =
 
 -- a row, an absent row, and a sum with a repeated key and an absent row
 abbrev pub read_block : ReadParts
-read_block = record { session = 1; lines = OneRow (at (codes "b")) ∷ OneRow (at (codes "z")) ∷ SumOf 0 0 (codes "a" ∷ codes "z" ∷ codes "b" ∷ codes "a" ∷ []) ∷ [] }
+read_block =
+    record {
+      session = 1;
+      lines = OneRow (at (codes "b")) ∷ OneRow (at (codes "z"))
+          ∷ SumOf 0 0 (codes "a" ∷ codes "z" ∷ codes "b" ∷ codes "a" ∷ []) ∷ [];
+    }
 
 abbrev pub read_answer : List AnswerLine
-read_answer = Found (at (codes "b")) (int_row (negsuc 2)) ∷ Absent (at (codes "z")) ∷ Sum (pos 17) ∷ []
+read_answer = Found (at (codes "b")) (int_row (negsuc 2)) ∷ Absent (at (codes "z")) ∷ Sum (pos 17)
+    ∷ []
 
 -- bodies with four statements that write, of two rows
 abbrev pub counted_bodies : List (List Statement)
 counted_bodies =
-    (Put (at (codes "a")) (int_row (pos 1)) ∷ Need (at (codes "c")) 0 Eq (pos 1) ∷ Add (at (codes "a")) 0 (pos 1) ∷ [])
+    (Put (at (codes "a")) (int_row (pos 1)) ∷ Need (at (codes "c")) 0 Eq (pos 1)
+    ∷ Add (at (codes "a")) 0 (pos 1) ∷ [])
     ∷ []
     ∷ (Copy (at (codes "c")) (at (codes "b")) ∷ Del (at (codes "a")) ∷ [])
     ∷ []

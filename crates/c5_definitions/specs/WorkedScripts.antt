@@ -29,25 +29,34 @@ put_parts = record {
 
 -- a transaction that puts a text with a blank in it, and a number below 0
 abbrev pub quoted_text : List ℕ
-quoted_text = codes "table t text int\ntxn\nput t k " ++ 34 ∷ codes "hello world" ++ 34 ∷ codes " -5\nend\n"
+quoted_text = codes "table t text int\ntxn\nput t k " ++ 34 ∷ codes "hello world"
+    ++ 34 ∷ codes " -5\nend\n"
 
 abbrev pub quoted_parts : ScriptParts
 quoted_parts = record {
   tables = text_tables;
-  bodies = (Put (record { table = 0; key = codes "k" }) (Txt (codes "hello world") ∷ Int (negsuc 4) ∷ []) ∷ []) ∷ [];
+  bodies = (Put (record { table = 0; key = codes "k" })
+      (Txt (codes "hello world") ∷ Int (negsuc 4) ∷ []) ∷ []) ∷ [];
   reads = [];
   turns = [];
 }
 
--- every kind of block, with blanks that part nothing, a line without words, and no line end at the end
+-- every kind of block, with blanks that part nothing, a line without words, and no line end at the
+-- end
 abbrev pub all_text : List ℕ
-all_text = codes "  table acct int \n\ntxn\nneed acct a 0 ge 007\n add  acct a 0 -1\nend\nread 1\nrow acct a\nsum acct 0 a b\nend\nturns w1 v s16"
+all_text =
+    codes "  table acct int \n\ntxn\nneed acct a 0 ge 007\n add  acct a 0 -1\nend\nread 1\nrow acct a\nsum acct 0 a b\nend\nturns w1 v s16"
 
 abbrev pub all_parts : ScriptParts
 all_parts = record {
   tables = worked_tables;
-  bodies = (Need (record { table = 0; key = codes "a" }) 0 rels.Ge (pos 7) ∷ Add (record { table = 0; key = codes "a" }) 0 (negsuc 0) ∷ []) ∷ [];
-  reads = record { session = 1; lines = OneRow (record { table = 0; key = codes "a" }) ∷ SumOf 0 0 (codes "a" ∷ codes "b" ∷ []) ∷ [] } ∷ [];
+  bodies = (Need (record { table = 0; key = codes "a" }) 0 rels.Ge (pos 7)
+      ∷ Add (record { table = 0; key = codes "a" }) 0 (negsuc 0) ∷ []) ∷ [];
+  reads = record {
+    session = 1;
+    lines = OneRow (record { table = 0; key = codes "a" })
+        ∷ SumOf 0 0 (codes "a" ∷ codes "b" ∷ []) ∷ [];
+  } ∷ [];
   turns = turns.Worker 1 ∷ turns.Visible ∷ turns.Session 16 ∷ [];
 }
 

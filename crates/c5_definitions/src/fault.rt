@@ -23,7 +23,8 @@ pub enum LogKind {
     Stamp,
     /// A commit mark has the number of writes since the last one.
     Count,
-    /// No write stands between the last commit mark and the end mark, which has the number of commit marks.
+    /// No write stands between the last commit mark and the end mark, which has the number of
+    /// commit marks.
     End,
     /// The end mark has come whole.
     Cut,
@@ -34,8 +35,8 @@ pub enum LogKind {
 /// The first fault of a log.
 #[derive(Clone, Copy, Debug, PartialEq, Eq)]
 pub struct LogFault {
-    /// Where the faulty item begins, counted in bytes from the first byte of the log. A frame begins with
-    /// its length.
+    /// Where the faulty item begins, counted in bytes from the first byte of the log. A frame
+    /// begins with its length.
     pub offset: u32,
     /// The first test that the item fails.
     pub kind: LogKind,

@@ -1,6 +1,7 @@
-//! What a log is, what state it leaves and how rows are printed; what a script is, what its statements do,
-//! and what a serial run of it is: the definitions that the contracts of the other crates cite, and the plain
-//! types that they speak of. Laws check them against logs, scripts and runs that were worked out by hand.
+//! What a log is, what state it leaves and how rows are printed; what a script is, what its
+//! statements do, and what a serial run of it is: the definitions that the contracts of the other
+//! crates cite, and the plain types that they speak of. Laws check them against logs, scripts and
+//! runs that were worked out by hand.
 #![tactic(auto)]
 
 mod fault;

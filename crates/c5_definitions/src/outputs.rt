@@ -8,7 +8,8 @@ ghost use Rattle.c5_definitions.specs.Lawful.{IsLawfulTable};
 ghost use Rattle.c5_definitions.specs.Outputs.{clone_text, HasItsLines, OneOrderAndPlaces};
 ghost use Rattle.c5_definitions.specs.Replies.{in_reply_order, AreLawfulPlaces};
 ghost use Rattle.c5_definitions.specs.ScriptParts.{ReadParts, ScriptParts};
-ghost use Rattle.c5_definitions.specs.WorkedOutputs.{read_a, sum_a, quiet_script, quiet_text, busy_script, put_first_text, add_first_text};
+ghost use Rattle.c5_definitions.specs.WorkedOutputs.{read_a, sum_a, quiet_script, quiet_text};
+ghost use Rattle.c5_definitions.specs.WorkedOutputs.{busy_script, put_first_text, add_first_text};
 
 /// What `clone` prints for a script is the text of at most one order and one list of places.
 pub fn one_order_and_places()
@@ -17,7 +18,8 @@ pub fn one_order_and_places()
 
 /// A reply has a line for its head and one for each line of its read block.
 pub fn lines_of_replies()
-    ensures { (tables : List TableDef) (read : ReadParts) → AllByRecursion IsLawfulTable tables → IsRead read → HasItsLines tables read }
+    ensures { (tables : List TableDef) (read : ReadParts) → AllByRecursion IsLawfulTable tables
+        → IsRead read → HasItsLines tables read }
 {}
 
 /// Reads are replied to by session, and places are lawful unless they fall within a session.

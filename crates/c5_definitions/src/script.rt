@@ -55,7 +55,8 @@ pub enum Statement {
 pub enum ReadLine {
     /// Asks for a row.
     OneRow { name: RowName },
-    /// Asks for the sum of a column over rows; an absent row counts 0, and a repeated key counts again.
+    /// Asks for the sum of a column over rows; an absent row counts 0, and a repeated key counts
+    /// again.
     SumOf { table: u8, col: u8, keys: Keys },
 }
 
@@ -75,7 +76,8 @@ pub enum TurnWord {
 pub enum ScriptKind {
     /// Each byte of a line is `20` to `7E`.
     Byte,
-    /// A quoted text is closed and a space or the line's end follows it; no quote stands in a bare word.
+    /// A quoted text is closed and a space or the line's end follows it; no quote stands in a bare
+    /// word.
     Quote,
     /// The first word is known at its place; a relation is known.
     Word,
@@ -102,7 +104,8 @@ pub enum ScriptKind {
 /// The first fault of a script.
 #[derive(Clone, Copy, Debug, PartialEq, Eq)]
 pub struct ScriptFault {
-    /// The faulty line; lines count from 1. What is missing at the end is missing on the line after the last.
+    /// The faulty line; lines count from 1. What is missing at the end is missing on the line after
+    /// the last.
     pub line: u32,
     /// The first test that the line fails.
     pub kind: ScriptKind,

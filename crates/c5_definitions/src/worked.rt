@@ -1,6 +1,7 @@
-//! Laws that check definitions against values that were worked out by hand. The checker computes both sides.
+//! Laws that check definitions against values that were worked out by hand. The checker computes
+//! both sides.
 
-ghost use Rattle.std.specs.Prelude.{◌≡◌, [], ◌∷◌, None, Some};
+ghost use Rattle.std.specs.Prelude.{◌+◌, ◌≡◌, [], ◌∷◌, None, Some};
 ghost use Rattle.std.specs.FinMap.{empty};
 ghost use Rattle.c5_rows.specs.Order.{row_name_cmp};
 ghost use Rattle.c5_rows.specs.State.{state_after};
@@ -9,10 +10,17 @@ ghost use Rattle.c5_definitions.specs.Lawful.{Spells};
 ghost use Rattle.c5_definitions.specs.Limits.{write_statements, written_rows, excess_in};
 ghost use Rattle.c5_definitions.specs.SerialRun.{serial_txns};
 ghost use Rattle.c5_definitions.specs.Texts.{rows_text};
-ghost use Rattle.c5_definitions.specs.Worked.{worked_tables, worked_txns, worked_bytes, worked_text, text_tables, text_txns, text_bytes, text_text};
-ghost use Rattle.c5_definitions.specs.WorkedLogFaults.{HaveFaults, header_faults, frame_faults, place_faults, cut_faults};
-ghost use Rattle.c5_definitions.specs.WorkedRuns.{EndSo, statement_cases, need_cases, start, run_bodies, run_in_order, run_reversed, read_block, read_answer, counted_bodies};
-ghost use Rattle.c5_definitions.specs.WorkedScriptFaults.{HaveScriptFaults, line_faults, count_faults, word_faults};
+ghost use Rattle.c5_definitions.specs.Worked.{worked_tables, worked_txns, worked_bytes};
+ghost use Rattle.c5_definitions.specs.Worked.{worked_text, text_tables, text_txns, text_bytes};
+ghost use Rattle.c5_definitions.specs.Worked.{text_text};
+ghost use Rattle.c5_definitions.specs.WorkedLogFaults.{HaveFaults, header_faults, frame_faults};
+ghost use Rattle.c5_definitions.specs.WorkedLogFaults.{place_faults, cut_faults};
+ghost use Rattle.c5_definitions.specs.WorkedRuns.{EndSo, statement_cases, need_cases, start};
+ghost use Rattle.c5_definitions.specs.WorkedRuns.{run_bodies, run_in_order, run_reversed};
+ghost use Rattle.c5_definitions.specs.WorkedRuns.{read_block, read_answer, counted_bodies};
+ghost use Rattle.c5_definitions.specs.WorkedScriptFaults.{HaveScriptFaults, line_faults};
+ghost use Rattle.c5_definitions.specs.WorkedScriptFaults.{count_faults, word_faults};
+ghost use Rattle.c5_rows.specs.Sizes.{max_transactions, max_writes, max_rows};
 
 use crate::limits::Excess;
 
@@ -23,7 +31,8 @@ pub fn worked_log()
 
 /// The rows after that log have this text.
 pub fn worked_rows()
-    ensures { rows_text worked_tables (state_after (empty {R = row_name_cmp}) worked_txns 1) ≡ worked_text }
+    ensures { rows_text worked_tables (state_after (empty {R = row_name_cmp}) worked_txns 1)
+        ≡ worked_text }
 {}
 
 /// The same of a log with a text cell and a number below 0.
@@ -33,7 +42,8 @@ pub fn worked_text_log()
 
 /// The rows after that log have this text.
 pub fn worked_text_rows()
-    ensures { rows_text text_tables (state_after (empty {R = row_name_cmp}) text_txns 1) ≡ text_text }
+    ensures { rows_text text_tables (state_after (empty {R = row_name_cmp}) text_txns 1)
+        ≡ text_text }
 {}
 
 /// The first faults of bytes that aren't logs.
@@ -72,8 +82,9 @@ pub fn worked_answer()
 pub fn worked_limits()
     ensures writes { write_statements counted_bodies ≡ 4 }
     ensures rows { written_rows counted_bodies ≡ 2 }
-    ensures none { excess_in 65536 262144 65536 ≡ None }
+    ensures none { excess_in max_transactions max_writes max_rows ≡ None }
     ensures transactions_first { excess_in 65537 262145 65537 ≡ Some Excess.Transactions }
-    ensures writes_next { excess_in 65536 262145 65537 ≡ Some Excess.Writes }
-    ensures rows_last { excess_in 65536 262144 65537 ≡ Some Excess.Rows }
+    ensures writes_next { excess_in max_transactions (max_writes + 1) (max_rows + 1)
+        ≡ Some Excess.Writes }
+    ensures rows_last { excess_in max_transactions max_writes (max_rows + 1) ≡ Some Excess.Rows }
 {}

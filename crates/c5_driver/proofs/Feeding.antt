@@ -6,7 +6,7 @@ use Rattle.std.proofs.lemmas.List.{length-append}
 use Rattle.c5_rows.specs.Counts.{Rose}
 use Rattle.c5_driver.specs.declared.refusal.Refusal.{Refusal}
 use Rattle.c5_driver.specs.declared.refusal.Refusal.TheVariants as refusals
-use Rattle.c5_driver.specs.Feeding.{Feeds}
+use Rattle.c5_driver.specs.Feeding.{FeedsSource}
 use Rattle.c5_driver.specs.Inputs.{Refuses, none_refused}
 use Rattle.c5_driver.specs.Uses.{SourceUse}
 
@@ -28,7 +28,7 @@ never : (refusal : Refusal) → None ≡ Some refusal → ⊥
 never refusal e = absurd cc
 
 -- what was fed before and now
-pub fed-more : (a b c : Option (List ℕ)) (f0 f1 : ℕ) (old new : List ℕ) → Consumes a b old → Feeds (use_of b c f0 f1) old new → Consumes a c new
+pub fed-more : (a b c : Option (List ℕ)) (f0 f1 : ℕ) (old new : List ℕ) → Consumes a b old → FeedsSource (use_of b c f0 f1) old new → Consumes a c new
 fed-more a b c f0 f1 old new taken more = subst (Consumes a c) (sym more.fed) (Consumes-trans a b c old more.bytes taken more.taken)
 
 -- why one more read ends the feeding is why the whole input is refused

@@ -1,5 +1,6 @@
 -- Which words are a command, and how much each reads.
-use Rattle.std.specs.Prelude.{ℕ, List, [], ◌∷◌, codes, string_bytes, String, Option, Some, None, if◌then◌else◌}
+use Rattle.std.specs.Prelude.{ℕ, List, [], ◌∷◌, codes, string_bytes, String, Option, Some, None}
+use Rattle.std.specs.Prelude.{if◌then◌else◌}
 use Rattle.std.specs.Str.{bytes_eq}
 use Rattle.std.specs.declared.alloc.Global.{Global}
 use Rattle.c5_rows.specs.Sizes.{max_log_bytes, max_script_bytes}

@@ -4,7 +4,7 @@ use Rattle.std.specs.Io.KnownBytes.{Consumes}
 use Rattle.c5_driver.specs.Uses.{SourceUse}
 
 -- the bytes that were read are fed, and no read failed
-pub record Feeds (source : SourceUse) (fed_old fed_new : List ℕ) : Type 0 where
+pub record FeedsSource (source : SourceUse) (fed_old fed_new : List ℕ) : Type 0 where
   pub bytes : List ℕ
   pub taken : Consumes source.left_old source.left_new bytes
   pub fed : fed_new ≡ fed_old ++ bytes

@@ -32,11 +32,11 @@ Refuses limit refused source refusal =
     (input : List ℕ) × ReadsAll limit source input × (refused input ≡ Some refusal)
 
 -- a value is made of an input that is read whole and not refused, or the input is refused
-abbrev pub Reads : {T : Type 0} → ℕ → (List ℕ → Option Refusal) → (List ℕ → T → Type 0)
+abbrev pub ReadsInput : {T : Type 0} → ℕ → (List ℕ → Option Refusal) → (List ℕ → T → Type 0)
     → SourceUse → Result T Refusal → Type 0
-Reads limit refused made source (Ok value) =
+ReadsInput limit refused made source (Ok value) =
     (input : List ℕ) × ReadsAll limit source input × (refused input ≡ None) × made input value
-Reads limit refused made source (Err refusal) = Refuses limit refused source refusal
+ReadsInput limit refused made source (Err refusal) = Refuses limit refused source refusal
 
 -- no input is refused for what it is
 abbrev pub none_refused : List ℕ → Option Refusal

@@ -1,5 +1,6 @@
 -- What each command makes of an input: why it refuses it, and the text that it prints.
-use Rattle.std.specs.Prelude.{◌≡◌, ◌≤◌, ℕ, List, length, Option, Some, None, option_map, Ok, Err, Result, Vec}
+use Rattle.std.specs.Prelude.{◌≡◌, ◌≤◌, ℕ, List, length, Option, Some, None, option_map, Ok, Err}
+use Rattle.std.specs.Prelude.{Result, Vec}
 use Rattle.std.specs.FinMap.{empty}
 use Rattle.std.specs.declared.alloc.Global.{Global}
 use Rattle.c5_rows.specs.declared.tables.TableDef.{TableDef}
@@ -18,7 +19,7 @@ use Rattle.c5_driver.specs.declared.refusal.Refusal.{Refusal}
 use Rattle.c5_driver.specs.declared.refusal.Refusal.TheVariants.{BadLog, BadScript, Limit}
 use Rattle.c5_driver.specs.Commands.{input_limit}
 use Rattle.c5_definitions.specs.Limits.{excess_of}
-use Rattle.c5_driver.specs.Inputs.{Reads}
+use Rattle.c5_driver.specs.Inputs.{ReadsInput}
 use Rattle.c5_driver.specs.Uses.{SourceUse}
 
 -- ---- refused inputs
@@ -70,5 +71,5 @@ IsTextOf Primary input text = IsLogOfRun input text
 -- a command makes its text of the whole input, or refuses the input
 abbrev pub MakesText : Command → SourceUse → Result (Vec ℕ Global) Refusal → Type 0
 MakesText command source result =
-    Reads (input_limit command) (input_refusal command)
+    ReadsInput (input_limit command) (input_refusal command)
     (λ input text. IsTextOf command input text.items) source result

@@ -50,10 +50,10 @@ PrintsNothing statuses.NoMemory = Unit {0}
 PrintsNothing status = ⊥
 
 -- the run succeeded, or ran out of memory
-abbrev pub IsDone : Status → Type 0
-IsDone statuses.Ok = Unit {0}
-IsDone statuses.NoMemory = Unit {0}
-IsDone status = ⊥
+abbrev pub IsSuccess : Status → Type 0
+IsSuccess statuses.Ok = Unit {0}
+IsSuccess statuses.NoMemory = Unit {0}
+IsSuccess status = ⊥
 
 -- if no read and no write failed, a run over an accepted input is done
 abbrev pub Completes : Command → Status → SourceUse → SinkUse → Type 0
@@ -62,4 +62,4 @@ Completes command status source sink =
     IsAccepted command input
     → ¬ Rose source.faults_old source.faults_new
     → ¬ Rose sink.faults_old sink.faults_new
-    → IsDone status)
+    → IsSuccess status)

@@ -18,7 +18,8 @@ use c5_rows::{NoMemory, RowEntry, RowMap, Schema};
 use c5_text::rows_text;
 use std::alloc::Global;
 
-// Makes the change of a write. A row is kept as a reference to its bytes in the log: no cell is copied.
+// Makes the change of a write. A row is kept as a reference to its bytes in the log: no cell is
+// copied.
 fn change<'a>(rows: &mut RowMap<RowRef<'a>>, write: &WriteRef<'a>) -> Result<(), NoMemory>
     ensures { OnOk result (rows.new ≡ after_change write.now.name write.now.change rows.old) }
 {
@@ -54,7 +55,8 @@ fn rows_after<'a>(alloc: Global, log: &'a LogBuffer) -> Result<RowMap<RowRef<'a>
 // and the text aren't in memory at once.
 fn entries_after(alloc: Global, log: LogBuffer) -> Result<(Schema, Vec<RowEntry>), NoMemory>
     ensures schema { IfOk result (λ r. r.0 ≡ log.tables) }
-    ensures entries { IfOk result (λ r. r.1.items ≡ rows_of (after_txns log.txns (empty {R = row_name_cmp}))) }
+    ensures entries { IfOk result
+        (λ r. r.1.items ≡ rows_of (after_txns log.txns (empty {R = row_name_cmp}))) }
 {
     let schema = *log.schema();
     let entries = rows_after(alloc, &log)?.list(alloc)?;

@@ -1,12 +1,13 @@
 //! A log that is read from a source.
 
-ghost use Rattle.std.specs.Prelude.{◌≡◌, ◌≤◌, ◌<◌, ◌+◌, ◌-◌, ◌++◌, [], length, take, true, false, IfOk, IfErr, OnOk, OnErr};
+ghost use Rattle.std.specs.Prelude.{◌≡◌, ◌≤◌, ◌<◌, ◌+◌, ◌-◌, ◌++◌, [], length, take, true, false};
+ghost use Rattle.std.specs.Prelude.{IfOk, IfErr, OnOk, OnErr};
 ghost use Rattle.std.specs.Io.KnownBytes.{Consumes, IsAtEnd, Keeps};
 ghost use Rattle.c5_rows.specs.Sizes.{max_log_bytes};
 ghost use Rattle.c5_rows.specs.Counts.{HasCause};
 ghost use Rattle.c5_definitions.specs.Lawful.{Spells};
-ghost use Rattle.c5_driver.specs.Feeding.{Feeds};
-ghost use Rattle.c5_driver.specs.Inputs.{Reads, Refuses, none_refused};
+ghost use Rattle.c5_driver.specs.Feeding.{FeedsSource};
+ghost use Rattle.c5_driver.specs.Inputs.{ReadsInput, Refuses, none_refused};
 ghost use Rattle.c5_driver.specs.Meanings.{log_refusal};
 ghost use Rattle.c5_driver.specs.Uses.{source_use};
 
@@ -24,7 +25,8 @@ fn read_piece<S: Source>(source: &mut S, piece: &mut [u8], room: usize) -> Resul
     requires piece { 1 ≤ length piece.old }
     ensures fits { IfOk result (λ n. n ≤ length piece.new) }
     ensures within { IfOk result (λ n. n ≤ room) }
-    ensures ok { IfOk result (λ n. Consumes (S.left source.old) (S.left source.new) (take n piece.new)) }
+    ensures ok { IfOk result
+        (λ n. Consumes (S.left source.old) (S.left source.new) (take n piece.new)) }
     ensures end { IfOk result (λ n. n ≡ 0 → IsAtEnd (S.left source.new)) }
     ensures err { OnErr result (Keeps (S.left source.old) (S.left source.new)) }
     ensures cause { HasCause (S.faults source.old) (S.faults source.new) result }
@@ -57,7 +59,8 @@ fn feed_next<S: Source>(
     requires within { length decoder.old ≤ limit }
     requires piece { 1 ≤ length piece.old }
     ensures within { length decoder.new ≤ limit }
-    ensures fed { OnOk result (Feeds (source_use S.left S.faults source.old source.new) decoder.old decoder.new) }
+    ensures fed { OnOk result
+        (FeedsSource (source_use S.left S.faults source.old source.new) decoder.old decoder.new) }
     ensures end { IfOk result (λ ended. ended ≡ true → IsAtEnd (S.left source.new)) }
     ensures more { IfOk result (λ ended. ended ≡ false → length decoder.old < length decoder.new) }
     ensures refused { IfErr result (λ refusal. Refuses (limit - length decoder.old) none_refused
@@ -85,7 +88,7 @@ fn feed_all<S: Source>(
     requires most { limit ≤ max_log_bytes }
     requires empty { decoder.old ≡ [] }
     requires piece { 1 ≤ length piece.old }
-    ensures { Reads limit none_refused (λ input _. decoder.new ≡ input)
+    ensures { ReadsInput limit none_refused (λ input _. decoder.new ≡ input)
         (source_use S.left S.faults source.old source.new) result }
 {
     'pieces: loop {
@@ -100,7 +103,7 @@ fn feed_all<S: Source>(
 // A decoder that was fed all that the source had left.
 fn fed_whole<S: Source>(alloc: Global, source: &mut S, limit: usize) -> Result<Decoder, Refusal>
     requires { limit ≤ max_log_bytes }
-    ensures { Reads limit none_refused (λ input decoder. decoder ≡ input)
+    ensures { ReadsInput limit none_refused (λ input decoder. decoder ≡ input)
         (source_use S.left S.faults source.old source.new) result }
 {
     let mut piece = match vec![in alloc; 0; PIECE] {
@@ -119,7 +122,7 @@ pub fn read_log<S: Source>(
     limit: usize,
 ) -> Result<LogBuffer, Refusal>
     requires { limit ≤ max_log_bytes }
-    ensures { Reads limit log_refusal (λ input log. Spells input log.tables log.txns)
+    ensures { ReadsInput limit log_refusal (λ input log. Spells input log.tables log.txns)
         (source_use S.left S.faults source.old source.new) result }
 {
     let decoder = fed_whole(alloc, source, limit)?;

@@ -4,7 +4,8 @@ ghost use Rattle.std.specs.Prelude.{◌≡◌, ◌++◌, [], is_ok, OnOk};
 ghost use Rattle.std.specs.Io.KnownBytes.{Appends, Keeps};
 ghost use Rattle.c5_rows.specs.Counts.{HasCause};
 ghost use Rattle.c5_driver.specs.Printed.{AppendsPrefix, PrintsText, PrintsLine};
-ghost use Rattle.c5_driver.specs.Refusals.{line_of, limit_line, log_ending, place_line, script_ending};
+ghost use Rattle.c5_driver.specs.Refusals.{line_of, limit_line, log_ending, place_line};
+ghost use Rattle.c5_driver.specs.Refusals.{script_ending};
 ghost use Rattle.c5_driver.specs.Uses.{sink_use};
 
 use crate::refusal::Refusal;
@@ -55,7 +56,8 @@ fn write_parts<K: Sink>(
     middle: &[u8],
     ending: &[u8],
 ) -> Result<(), Failed>
-    ensures written { AppendsPrefix (K.held sink.old) (K.held sink.new) (front.now ++ middle.now ++ ending.now) }
+    ensures written { AppendsPrefix (K.held sink.old) (K.held sink.new)
+        (front.now ++ middle.now ++ ending.now) }
     ensures whole { OnOk result (Appends (K.held sink.old) (K.held sink.new)
         (front.now ++ middle.now ++ ending.now)) }
     ensures cause { HasCause (K.faults sink.old) (K.faults sink.new) result }
@@ -134,7 +136,8 @@ fn line_of_limit(excess: Excess) -> &'static [u8]
 
 /// Writes the line of a refusal, if it has one, and flushes. A failed call is ignored.
 pub fn refuse<K: Sink>(sink: &mut K, refusal: Refusal)
-    ensures line { PrintsLine (sink_use K.held K.faults K.flushed sink.old sink.new) (line_of refusal) }
+    ensures line { PrintsLine (sink_use K.held K.faults K.flushed sink.old sink.new)
+        (line_of refusal) }
     ensures untouched { line_of refusal ≡ [] → sink.new ≡ sink.old }
 {
     match refusal {

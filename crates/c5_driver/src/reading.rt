@@ -1,7 +1,7 @@
 //! An input that is read to its end, up to a limit.
 
 ghost use Rattle.std.specs.Prelude.{◌≡◌, ◌<◌};
-ghost use Rattle.c5_driver.specs.Inputs.{Reads, none_refused};
+ghost use Rattle.c5_driver.specs.Inputs.{ReadsInput, none_refused};
 ghost use Rattle.c5_driver.specs.Uses.{source_use};
 
 use crate::refusal::Refusal;
@@ -15,7 +15,7 @@ pub fn read_bytes<S: Source>(
     limit: usize,
 ) -> Result<Vec<u8>, Refusal>
     requires { limit < usize.MAX }
-    ensures { Reads limit none_refused (λ input bytes. bytes.items ≡ input)
+    ensures { ReadsInput limit none_refused (λ input bytes. bytes.items ≡ input)
         (source_use S.left S.faults source.old source.new) result }
 {
     match read_all(alloc, source, limit) {

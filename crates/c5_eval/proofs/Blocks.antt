@@ -8,7 +8,7 @@ use Rattle.c5_rows.specs.declared.writes.RowName.{RowName}
 use Rattle.c5_rows.specs.declared.answer.AnswerLine.{AnswerLine}
 use Rattle.c5_definitions.specs.declared.script.ReadLine.{ReadLine}
 use Rattle.c5_definitions.specs.Follows.{Read}
-use Rattle.c5_definitions.specs.Answers.{names_in, table_names, line_answer, lines_over, sum_in, or_zero, IsAnswered}
+use Rattle.c5_definitions.specs.Answers.{names_of_line, table_names, line_answer, lines_over, sum_in, or_zero, IsAnswered}
 use Rattle.c5_definitions.specs.Effects.{int_in_column}
 
 -- an answer to the lines from this place on, after this one, is the answer to all
@@ -17,16 +17,16 @@ Rounds all rest reads answer = (more : List Read) (later : List AnswerLine) → 
 
 -- the answer to one line, and then those to the others
 line_first : (line : ReadLine) (lines : List ReadLine) (reads more : List Read) (later : List AnswerLine) →
-    map (λ read. read.0) reads ≡ names_in line → IsAnswered lines more later → IsAnswered (line ∷ lines) (reads ++ more) (line_answer line (map (λ read. read.1) reads) ∷ later)
+    map (λ read. read.0) reads ≡ names_of_line line → IsAnswered lines more later → IsAnswered (line ∷ lines) (reads ++ more) (line_answer line (map (λ read. read.1) reads) ∷ later)
 line_first line lines reads more later names rest =
-    let count : length reads ≡ length (names_in line) = sym (length-map reads (λ (read : Read). read.0)) ∙ ap length names in
+    let count : length reads ≡ length (names_of_line line) = sym (length-map reads (λ (read : Read). read.0)) ∙ ap length names in
     record {
       names = map-append (λ (read : Read). read.0) reads more ∙ (λ i. names i ++ rest.names i);
-      answers = (λ i. line_answer line (map (λ (read : Read). read.1) (sym (take_at reads more (length (names_in line)) count) i)) ∷ (rest.answers ∙ ap (lines_over lines) (sym (drop_at reads more (length (names_in line)) count))) i);
+      answers = (λ i. line_answer line (map (λ (read : Read). read.1) (sym (take_at reads more (length (names_of_line line)) count) i)) ∷ (rest.answers ∙ ap (lines_over lines) (sym (drop_at reads more (length (names_of_line line)) count))) i);
     }
 
 pub rounds_on : (all : List ReadLine) (i : ℕ) (line : ReadLine) (reads taken : List Read) (before : List AnswerLine) (answer : AnswerLine) →
-    i < length all → line ≡ get_or all i line → map (λ read. read.0) taken ≡ names_in line → answer ≡ line_answer line (map (λ read. read.1) taken) →
+    i < length all → line ≡ get_or all i line → map (λ read. read.0) taken ≡ names_of_line line → answer ≡ line_answer line (map (λ read. read.1) taken) →
     Rounds all (drop i all) reads before → Rounds all (drop (i + 1) all) (reads ++ taken) (before ++ answer ∷ [])
 rounds_on all i line reads taken before answer lt is names made rounds more later rest =
     let here : drop i all ≡ line ∷ drop (i + 1) all = drop_more all i line lt ∙ ap (λ l. l ∷ drop (i + 1) all) (sym is) in

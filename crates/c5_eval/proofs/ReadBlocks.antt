@@ -8,7 +8,7 @@ use Rattle.c5_rows.specs.State.{State}
 use Rattle.c5_definitions.specs.declared.script.ReadLine.{ReadLine}
 use Rattle.c5_definitions.specs.ScriptParts.{ReadParts}
 use Rattle.c5_definitions.specs.Follows.{Read, AnsweredBy}
-use Rattle.c5_definitions.specs.Answers.{names_in, asked_names, line_answer, lines_from, lines_over, answer_of, IsAnswered}
+use Rattle.c5_definitions.specs.Answers.{names_of_line, asked_names, line_answer, lines_from, lines_over, answer_of, IsAnswered}
 
 -- a name, with the state's answer
 abbrev answered_read : State → RowName → Read
@@ -25,7 +25,7 @@ rows_back state (name ∷ names) = ap (λ rows. get state name ∷ rows) (rows_b
 lines_same : (state : State) (lines : List ReadLine) → lines_over lines (map (answered_read state) (asked_names lines)) ≡ lines_from lines state
 lines_same state [] = refl
 lines_same state (line ∷ lines) =
-    let names = names_in line in
+    let names = names_of_line line in
     let more = map (answered_read state) (asked_names lines) in
     let split : map (answered_read state) (names ++ asked_names lines) ≡ map (answered_read state) names ++ more = map-append (answered_read state) names (asked_names lines) in
     let count : length (map (answered_read state) names) ≡ length names = length-map names (answered_read state) in

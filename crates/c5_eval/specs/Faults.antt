@@ -10,8 +10,10 @@ CauseOf before now (Ok x) = now ≡ before
 CauseOf before now (Err (Read fault)) = Rose before now
 CauseOf before now (Err NoMemory) = now ≡ before
 
--- the count never falls, and the result is `Read` if it rose, and only if it rose or is at its last value
-pub record HasRowCause {T F : Type 0} (before now : ℕ) (result : Result T (EvalFault F)) : Type 0 where
+-- the count never falls, and the result is `Read` if it rose, and only if it rose or is at its last
+-- value
+pub record HasRowCause {T F : Type 0} (before now : ℕ)
+    (result : Result T (EvalFault F)) : Type 0 where
   pub later : before ≤ now
   pub cause : CauseOf before now result
 

@@ -19,7 +19,8 @@ Acts (sets name row) own after step = (step ≡ GoesOn) × (after ≡ insert own
 -- the statement uses exactly these reads, and acts so
 abbrev pub Takes : Statement → Own → Own → List Read → Step → Type 0
 Takes statement own after reads step =
-    (found : Option (List Cell)) × FindsRow (needed statement) own reads found [] × Acts (effect_of statement found) own after step
+    (found : Option (List Cell)) × FindsRow (needed statement) own reads found []
+    × Acts (effect_of statement found) own after step
 
 -- the row is set with this number in a column, if there is a number; else the statement declines
 abbrev pub set_cell_or_declined : RowName → List Cell → ℕ → Option ℤ → Effect

@@ -3,9 +3,11 @@
 ghost use Rattle.std.specs.Prelude.{◌≡◌, ◌≤◌, ◌++◌, List, IfOk, length, map};
 ghost use Rattle.c5_definitions.specs.Effects.{int_in_column};
 ghost use Rattle.c5_definitions.specs.Follows.{Read};
-ghost use Rattle.c5_definitions.specs.Answers.{names_in, line_answer, sum_in, row_answer, IsAnswered, table_names, or_zero};
+ghost use Rattle.c5_definitions.specs.Answers.{names_of_line, line_answer, sum_in, row_answer};
+ghost use Rattle.c5_definitions.specs.Answers.{IsAnswered, table_names, or_zero};
 ghost use Rattle.c5_rows.specs.Counts.{HasCause};
 ghost use Rattle.c5_eval.specs.Faults.{HasRowCause, Grew};
+ghost use Rattle.c5_rows.specs.Sizes.{max_sum_keys};
 
 use crate::reading::{EvalFault, ReadRows};
 use crate::steps::number_in;
@@ -22,8 +24,11 @@ fn number_or_zero(row: &Option<Row>, col: u8) -> i64
 
 // The sum of a column over rows.
 fn sum<R: ReadRows>(rows: &mut R, table: u8, col: u8, keys: &[Key]) -> Result<i128, R::Fault>
-    requires { length keys.now ≤ 16 }
-    ensures sum { IfOk result (λ sum. (reads : List Read) × (R.asked rows.new ≡ R.asked rows.old ++ reads) × (map (λ read. read.0) reads ≡ table_names table keys.now) × (sum ≡ sum_in col (map (λ read. read.1) reads))) }
+    requires { length keys.now ≤ max_sum_keys }
+    ensures sum { IfOk result (λ sum. (reads : List Read)
+        × (R.asked rows.new ≡ R.asked rows.old ++ reads)
+        × (map (λ read. read.0) reads ≡ table_names table keys.now)
+        × (sum ≡ sum_in col (map (λ read. read.1) reads))) }
     ensures asked { Grew (R.asked rows.old) (R.asked rows.new) }
     ensures base { R.base rows.new ≡ R.base rows.old }
     ensures cause { HasCause (R.refusals rows.old) (R.refusals rows.new) result }
@@ -48,7 +53,10 @@ fn row_answer(name: RowName, row: Option<Row>) -> AnswerLine
 
 // The answer to one line.
 fn line_answer<R: ReadRows>(rows: &mut R, line: &ReadLine) -> Result<AnswerLine, R::Fault>
-    ensures answered { IfOk result (λ answer. (reads : List Read) × (R.asked rows.new ≡ R.asked rows.old ++ reads) × (map (λ read. read.0) reads ≡ names_in line.now) × (answer ≡ line_answer line.now (map (λ read. read.1) reads))) }
+    ensures answered { IfOk result
+        (λ answer. (reads : List Read) × (R.asked rows.new ≡ R.asked rows.old ++ reads)
+        × (map (λ read. read.0) reads ≡ names_of_line line.now)
+        × (answer ≡ line_answer line.now (map (λ read. read.1) reads))) }
     ensures asked { Grew (R.asked rows.old) (R.asked rows.new) }
     ensures base { R.base rows.new ≡ R.base rows.old }
     ensures cause { HasCause (R.refusals rows.old) (R.refusals rows.new) result }
@@ -69,7 +77,9 @@ pub fn answer<R: ReadRows>(
     rows: &mut R,
 ) -> Result<Answer, EvalFault<R::Fault>>
     // Exactly the rows of the block were asked for, in order, and these answers make the result.
-    ensures answered { IfOk result (λ answer. (reads : List Read) × (R.asked rows.new ≡ R.asked rows.old ++ reads) × IsAnswered read.now.lines reads answer) }
+    ensures answered { IfOk result
+        (λ answer. (reads : List Read) × (R.asked rows.new ≡ R.asked rows.old ++ reads)
+        × IsAnswered read.now.lines reads answer) }
 
     // For every result:
     ensures asked { Grew (R.asked rows.old) (R.asked rows.new) }

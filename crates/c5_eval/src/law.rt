@@ -13,6 +13,10 @@ ghost use Rattle.c5_definitions.specs.Answers.{IsAnswered, answer_of};
 /// If each read is answered as a state answers it, a body ends as it does on that state, and the
 /// answer to a read block is that state's.
 pub fn evaluation_law()
-    ensures bodies { (body : List Statement) (state : State) (reads : List Read) (declined : Bool) (writes : List Write) → Follows body reads declined writes → AnsweredBy state reads → eval body state ≡ record { declined = declined; writes = writes } }
-    ensures answers { (read : ReadParts) (state : State) (reads : List Read) (answer : List AnswerLine) → IsAnswered read.lines reads answer → AnsweredBy state reads → answer ≡ answer_of read state }
+    ensures bodies { (body : List Statement) (state : State) (reads : List Read) (declined : Bool)
+        (writes : List Write) → Follows body reads declined writes → AnsweredBy state reads
+        → eval body state ≡ record { declined = declined; writes = writes } }
+    ensures answers { (read : ReadParts) (state : State) (reads : List Read)
+        (answer : List AnswerLine) → IsAnswered read.lines reads answer → AnsweredBy state reads
+        → answer ≡ answer_of read state }
 {}

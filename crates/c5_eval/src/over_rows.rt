@@ -98,8 +98,10 @@ pub fn evaluate_rows<L: LookUpRows>(
     body: &Body,
     rows: &L,
 ) -> Result<Outcome, NoMemory>
-    ensures declined { IfOk result (λ outcome. outcome.declined ≡ (eval body.now (L.state rows.now)).declined) }
-    ensures writes { IfOk result (λ outcome. outcome.writes ≡ (eval body.now (L.state rows.now)).writes) }
+    ensures declined { IfOk result
+        (λ outcome. outcome.declined ≡ (eval body.now (L.state rows.now)).declined) }
+    ensures writes { IfOk result
+        (λ outcome. outcome.writes ≡ (eval body.now (L.state rows.now)).writes) }
 {
     let mut reader = RowsReader::new(alloc, rows);
     match evaluate(alloc, body, &mut reader) {

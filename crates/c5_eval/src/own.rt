@@ -17,8 +17,9 @@ use std::collections::BTreeMap;
 use std::marker::Model;
 
 /// The rows that a body has set, each by the change that makes it.
-// While the names come nearly in order, the changes are kept as the writes that the body makes, which
-// moves the writes after a new one. From the first name on that would move many, they are in a tree.
+// While the names come nearly in order, the changes are kept as the writes that the body makes,
+// which moves the writes after a new one. From the first name on that would move many, they are in
+// a tree.
 #[derive(Drop)]
 pub struct Own {
     alloc: Global,
@@ -50,7 +51,10 @@ impl Model for Own {
 fn put<V: Drop>(values: &mut BTreeMap<RowName, V>, name: &RowName, value: V) -> Result<(), NoMemory>
     requires { IsOrdered row_name_cmp values.old }
     ensures ordered { IsOrdered row_name_cmp values.new }
-    ensures set { OnOk result ((q : Name) → lookup (is_at (row_name_cmp q)) values.new.entries ≡ cond (is_at (row_name_cmp name.now) q) (Some value) (lookup (is_at (row_name_cmp q)) values.old.entries)) }
+    ensures set { OnOk result ((q : Name)
+        → lookup (is_at (row_name_cmp q)) values.new.entries
+        ≡ cond (is_at (row_name_cmp name.now) q) (Some value)
+        (lookup (is_at (row_name_cmp q)) values.old.entries)) }
 {
     match values.get_mut(name) {
         Some(old) => *old = value,
@@ -104,7 +108,8 @@ fn set_in(
 ) -> Result<(), NoMemory>
     requires { IsOrderedIn tree.old }
     ensures ordered { IsOrderedIn tree.new }
-    ensures set { OnOk result (set_by (held_by writes.new tree.new) ≡ map.insert (set_by (held_by writes.old tree.old)) name.now (row_made change)) }
+    ensures set { OnOk result (set_by (held_by writes.new tree.new)
+        ≡ map.insert (set_by (held_by writes.old tree.old)) name.now (row_made change)) }
 {
     match tree {
         Some(tree) => put(tree, name, change)?,

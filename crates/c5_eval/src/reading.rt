@@ -26,7 +26,8 @@ pub trait ReadRows {
     /// The row of this name, or `None` if there is none.
     fn row(&mut self, name: &RowName) -> Result<Option<Row>, Self::Fault>
         ensures base { base self.new ≡ base self.old }
-        ensures answered { IfOk result (λ row. asked self.new ≡ asked self.old ++ (name.now, row) ∷ []) }
+        ensures answered { IfOk result
+            (λ row. asked self.new ≡ asked self.old ++ (name.now, row) ∷ []) }
         ensures refused { OnErr result (asked self.new ≡ asked self.old) }
         ensures cause { HasCause (refusals self.old) (refusals self.new) result };
 }

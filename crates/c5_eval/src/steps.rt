@@ -1,8 +1,10 @@
 //! Single statements.
 
-ghost use Rattle.std.specs.Prelude.{◌≡◌, ◌<◌, length, MatchOption, ◌++◌, ◌∷◌, List, Option, Some, None, [], IfOk, OnErr, if◌then◌else◌};
+ghost use Rattle.std.specs.Prelude.{◌≡◌, ◌<◌, length, MatchOption, ◌++◌, ◌∷◌, List, Option, Some};
+ghost use Rattle.std.specs.Prelude.{None, [], IfOk, OnErr, if◌then◌else◌};
 ghost use Rattle.c5_definitions.specs.Eval.{change_to};
-ghost use Rattle.c5_definitions.specs.Effects.{int_in_column, compares, add_effect, need_effect, keeps, declines, sets};
+ghost use Rattle.c5_definitions.specs.Effects.{int_in_column, compares, add_effect, need_effect};
+ghost use Rattle.c5_definitions.specs.Effects.{keeps, declines, sets};
 ghost use Rattle.c5_definitions.specs.Follows.{Read, FindsRow};
 ghost use Rattle.c5_rows.specs.declared.cells.Cell.{Cell};
 ghost use Rattle.c5_rows.specs.declared.writes.RowName.{RowName};
@@ -91,7 +93,10 @@ fn change_to(row: Option<Row>) -> Change
 // The number in a column of the row that the reader answers.
 #[inline(never)]
 fn asked_number<R: ReadRows>(rows: &mut R, name: &RowName, col: u8) -> Result<Option<i64>, R::Fault>
-    ensures answered { IfOk result (λ number. (found : Option (List Cell)) × (R.asked rows.new ≡ R.asked rows.old ++ (name.now, found) ∷ []) × (number ≡ int_in_column col found)) }
+    ensures answered { IfOk result
+        (λ number. (found : Option (List Cell))
+        × (R.asked rows.new ≡ R.asked rows.old ++ (name.now, found) ∷ [])
+        × (number ≡ int_in_column col found)) }
     ensures refused { OnErr result (R.asked rows.new ≡ R.asked rows.old) }
     ensures base { R.base rows.new ≡ R.base rows.old }
     ensures cause { HasCause (R.refusals rows.old) (R.refusals rows.new) result }
@@ -107,7 +112,10 @@ fn number_at<R: ReadRows>(
     name: &RowName,
     col: u8,
 ) -> Result<Option<i64>, R::Fault>
-    ensures found { IfOk result (λ number. (reads : List Read) × (R.asked rows.new ≡ R.asked rows.old ++ reads) × (found : Option (List Cell)) × FindsRow (Some name.now) own.now reads found [] × (number ≡ int_in_column col found)) }
+    ensures found { IfOk result
+        (λ number. (reads : List Read) × (R.asked rows.new ≡ R.asked rows.old ++ reads)
+        × (found : Option (List Cell)) × FindsRow (Some name.now) own.now reads found []
+        × (number ≡ int_in_column col found)) }
     ensures refused { OnErr result (R.asked rows.new ≡ R.asked rows.old) }
     ensures base { R.base rows.new ≡ R.base rows.old }
     ensures cause { HasCause (R.refusals rows.old) (R.refusals rows.new) result }
@@ -120,7 +128,9 @@ fn number_at<R: ReadRows>(
 
 // The change that makes a row what the body has set it to, or else what the reader answers.
 fn change_of<R: ReadRows>(own: &Own, rows: &mut R, name: &RowName) -> Result<Change, R::Fault>
-    ensures found { IfOk result (λ change. (reads : List Read) × (R.asked rows.new ≡ R.asked rows.old ++ reads) × FindsRow (Some name.now) own.now reads (row_made change) []) }
+    ensures found { IfOk result
+        (λ change. (reads : List Read) × (R.asked rows.new ≡ R.asked rows.old ++ reads)
+        × FindsRow (Some name.now) own.now reads (row_made change) []) }
     ensures refused { OnErr result (R.asked rows.new ≡ R.asked rows.old) }
     ensures base { R.base rows.new ≡ R.base rows.old }
     ensures cause { HasCause (R.refusals rows.old) (R.refusals rows.new) result }
@@ -166,7 +176,9 @@ fn need<R: ReadRows>(
     rel: Rel,
     n: i64,
 ) -> Result<Step, EvalFault<R::Fault>>
-    ensures takes { IfOk result (λ step. (reads : List Read) × (R.asked rows.new ≡ R.asked rows.old ++ reads) × Takes (Statement.Need name.now col rel n) own.old own.new reads step) }
+    ensures takes { IfOk result
+        (λ step. (reads : List Read) × (R.asked rows.new ≡ R.asked rows.old ++ reads)
+        × Takes (Statement.Need name.now col rel n) own.old own.new reads step) }
     ensures asked { Grew (R.asked rows.old) (R.asked rows.new) }
     ensures base { R.base rows.new ≡ R.base rows.old }
     ensures cause { HasRowCause (R.refusals rows.old) (R.refusals rows.new) result }
@@ -184,7 +196,9 @@ fn need<R: ReadRows>(
 
 // The number in the column plus `n`, or `None` if there is no number or the sum overflows an i64.
 fn sum_of(row: &Row, col: u8, n: i64) -> Option<i64>
-    ensures effect { (name : RowName) → add_effect name col (Some row.now) (int_in_column col (Some row.now)) n ≡ set_cell_or_declined name row.now col result }
+    ensures effect { (name : RowName)
+        → add_effect name col (Some row.now) (int_in_column col (Some row.now)) n
+        ≡ set_cell_or_declined name row.now col result }
     ensures within { MatchOption result (Unit {0}) (λ _. col < length row.now) }
 {
     number_of(row, col)?.checked_add(n)
@@ -192,7 +206,10 @@ fn sum_of(row: &Row, col: u8, n: i64) -> Option<i64>
 
 // Sets the row with `n` added to the number in a column, or declines.
 fn add_to(own: &mut Own, name: &RowName, row: &mut Row, col: u8, n: i64) -> Result<Step, NoMemory>
-    ensures { IfOk result (λ step. Acts (add_effect name.now col (Some row.old) (int_in_column col (Some row.old)) n) own.old own.new step) }
+    ensures { IfOk result
+        (λ step. Acts
+        (add_effect name.now col (Some row.old) (int_in_column col (Some row.old)) n) own.old
+        own.new step) }
 {
     match sum_of(row, col, n) {
         Some(sum) => {
@@ -212,7 +229,10 @@ fn add_again(
     col: u8,
     n: i64,
 ) -> Result<Step, NoMemory>
-    ensures { IfOk result (λ step. Acts (add_effect name.now col (row_made change) (int_in_column col (row_made change)) n) own.old own.new step) }
+    ensures { IfOk result
+        (λ step. Acts
+        (add_effect name.now col (row_made change) (int_in_column col (row_made change)) n) own.old
+        own.new step) }
 {
     match change {
         Change::Put(mut row) => add_to(own, name, &mut row, col, n),
@@ -229,7 +249,10 @@ fn add_asked<R: ReadRows>(
     col: u8,
     n: i64,
 ) -> Result<Step, EvalFault<R::Fault>>
-    ensures takes { IfOk result (λ step. (found : Option (List Cell)) × (R.asked rows.new ≡ R.asked rows.old ++ (name.now, found) ∷ []) × Acts (add_effect name.now col found (int_in_column col found) n) own.old own.new step) }
+    ensures takes { IfOk result
+        (λ step. (found : Option (List Cell))
+        × (R.asked rows.new ≡ R.asked rows.old ++ (name.now, found) ∷ [])
+        × Acts (add_effect name.now col found (int_in_column col found) n) own.old own.new step) }
     ensures asked { Grew (R.asked rows.old) (R.asked rows.new) }
     ensures base { R.base rows.new ≡ R.base rows.old }
     ensures cause { HasRowCause (R.refusals rows.old) (R.refusals rows.new) result }
@@ -249,7 +272,9 @@ fn add<R: ReadRows>(
     col: u8,
     n: i64,
 ) -> Result<Step, EvalFault<R::Fault>>
-    ensures takes { IfOk result (λ step. (reads : List Read) × (R.asked rows.new ≡ R.asked rows.old ++ reads) × Takes (Statement.Add name.now col n) own.old own.new reads step) }
+    ensures takes { IfOk result
+        (λ step. (reads : List Read) × (R.asked rows.new ≡ R.asked rows.old ++ reads)
+        × Takes (Statement.Add name.now col n) own.old own.new reads step) }
     ensures asked { Grew (R.asked rows.old) (R.asked rows.new) }
     ensures base { R.base rows.new ≡ R.base rows.old }
     ensures cause { HasRowCause (R.refusals rows.old) (R.refusals rows.new) result }
@@ -271,7 +296,9 @@ fn copy<R: ReadRows>(
     from: &RowName,
     to: &RowName,
 ) -> Result<Step, EvalFault<R::Fault>>
-    ensures takes { IfOk result (λ step. (reads : List Read) × (R.asked rows.new ≡ R.asked rows.old ++ reads) × Takes (Statement.Copy from.now to.now) own.old own.new reads step) }
+    ensures takes { IfOk result
+        (λ step. (reads : List Read) × (R.asked rows.new ≡ R.asked rows.old ++ reads)
+        × Takes (Statement.Copy from.now to.now) own.old own.new reads step) }
     ensures asked { Grew (R.asked rows.old) (R.asked rows.new) }
     ensures base { R.base rows.new ≡ R.base rows.old }
     ensures cause { HasRowCause (R.refusals rows.old) (R.refusals rows.new) result }
@@ -288,7 +315,9 @@ pub fn perform<R: ReadRows>(
     own: &mut Own,
     rows: &mut R,
 ) -> Result<Step, EvalFault<R::Fault>>
-    ensures takes { IfOk result (λ step. (reads : List Read) × (R.asked rows.new ≡ R.asked rows.old ++ reads) × Takes statement.now own.old own.new reads step) }
+    ensures takes { IfOk result
+        (λ step. (reads : List Read) × (R.asked rows.new ≡ R.asked rows.old ++ reads)
+        × Takes statement.now own.old own.new reads step) }
     ensures asked { Grew (R.asked rows.old) (R.asked rows.new) }
     ensures base { R.base rows.new ≡ R.base rows.old }
     ensures cause { HasRowCause (R.refusals rows.old) (R.refusals rows.new) result }

@@ -23,7 +23,8 @@ pub struct Outcome {
 
 // How a body ends that has set these rows.
 fn ending(alloc: Global, own: Own, declined: bool) -> Result<Outcome, NoMemory>
-    ensures { IfOk result (λ outcome. outcome ≡ record { declined = declined; writes = (if declined then [] else own_writes own) }) }
+    ensures { IfOk result (λ outcome. outcome
+        ≡ record { declined = declined; writes = (if declined then [] else own_writes own) }) }
 {
     let writes = if declined {
         Writes::new(alloc)
@@ -58,7 +59,9 @@ pub fn evaluate<R: ReadRows>(
     rows: &mut R,
 ) -> Result<Outcome, EvalFault<R::Fault>>
     // The outcome follows from the answers of this call.
-    ensures follows { IfOk result (λ outcome. (reads : List Read) × (R.asked rows.new ≡ R.asked rows.old ++ reads) × Follows body.now reads outcome.declined outcome.writes) }
+    ensures follows { IfOk result
+        (λ outcome. (reads : List Read) × (R.asked rows.new ≡ R.asked rows.old ++ reads)
+        × Follows body.now reads outcome.declined outcome.writes) }
 
     // For every result:
     ensures asked { Grew (R.asked rows.old) (R.asked rows.new) }

@@ -10,7 +10,7 @@ use Rattle.c5_rows.specs.declared.writes.Txn.{Txn}
 use Rattle.c5_definitions.specs.Frames.{frame_at}
 use Rattle.c5_frames.specs.declared.index.Place.{Place}
 use Rattle.c5_frames.specs.declared.index.TxnRef.{TxnRef}
-use Rattle.c5_frames.specs.Index.{Found, with_place, with_txn, writes_of, txn_ref_of, txn_refs_from, payload_at, LiesAt, LieAt, IsIndex}
+use Rattle.c5_frames.specs.Index.{Found, with_payload_place, with_txn, writes_of, txn_ref_of, txn_refs_from, payload_at, LiesAt, LieAt, IsIndex}
 
 -- ---- places
 
@@ -90,7 +90,7 @@ pub IsIndex-more : (bytes more : List ℕ) (tables : List TableDef) (f : Found) 
 IsIndex-more bytes more tables f txns writes h = record { entries = h.entries; closed = h.closed; places = LieAt-more bytes more tables f.places (writes_of txns ++ writes) h.places }
 
 pub IsIndex-written : (bytes : List ℕ) (tables : List TableDef) (f : Found) (txns : List Txn) (writes : List Write) (place : Place) (w : Write)
-    → IsIndex bytes tables f txns writes → LiesAt bytes tables place w → IsIndex bytes tables (with_place f place) txns (writes ++ w ∷ [])
+    → IsIndex bytes tables f txns writes → LiesAt bytes tables place w → IsIndex bytes tables (with_payload_place f place) txns (writes ++ w ∷ [])
 IsIndex-written bytes tables f txns writes place w h new = record {
   entries = h.entries;
   closed = h.closed;

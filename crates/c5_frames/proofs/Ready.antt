@@ -11,7 +11,7 @@ use Rattle.c5_frames.specs.declared.index.TxnRef.{TxnRef}
 use Rattle.c5_frames.specs.declared.index.Index.{Index}
 use Rattle.c5_frames.specs.declared.decoder_state.DecoderState.{DecoderState}
 use Rattle.c5_frames.specs.Stages.{item_of}
-use Rattle.c5_frames.specs.Index.{Found, found_in, with_place, with_txn, HasRoom}
+use Rattle.c5_frames.specs.Index.{Found, found_in, with_payload_place, with_txn, HasRoom}
 use Rattle.c5_frames.specs.DecoderStates.{decoded_state, tables_of, IsDue, Tracks, IsReady, Faults}
 use Rattle.c5_frames.proofs.Indexing.{open-length, txn_refs-length}
 use Rattle.c5_frames.proofs.Tracking.{payload_state, behind_frame, item_at, Tracks-payload, Faults-payload, holds-end, holds-mark, holds-write, holds-fault, payload-fault, Tracks-written, Faults-order, Tracks-marked, Faults-stamp, Faults-count, Tracks-ended, Faults-open, Faults-end, HasRoom-less}
@@ -107,7 +107,7 @@ fault-count bytes p size m h shown higher other =
 
 pub ready-written : (bytes : List ℕ) (p : DecoderState) (size : ℕ) (name : RowName) (index : Index) (h : Takes bytes p size) → shown_at (tables_of p.schema) (item_at bytes p.at size) ≡ Ok (named name)
     → is_above name (last_of (tracks bytes p size h).writes) ≡ true
-    → found_in index ≡ with_place (found_in p.index) (record { at = p.at; size = size }) → HasRoom (length bytes - (p.at + size)) index
+    → found_in index ≡ with_payload_place (found_in p.index) (record { at = p.at; size = size }) → HasRoom (length bytes - (p.at + size)) index
     → IsReady bytes (record { schema = p.schema; stage = stages.FrameLength; at = p.at + size; index = index })
 ready-written bytes p size name index h shown above found room =
     let t = tracks bytes p size h in

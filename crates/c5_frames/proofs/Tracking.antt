@@ -15,7 +15,7 @@ use Rattle.c5_frames.specs.Payloads.{Shown, named, marked, ended, shown}
 use Rattle.c5_frames.specs.declared.index.Place.{Place}
 use Rattle.c5_frames.specs.declared.index.TxnRef.{TxnRef}
 use Rattle.c5_frames.specs.declared.index.Index.{Index}
-use Rattle.c5_frames.specs.Index.{Found, with_place, with_txn, HasRoom}
+use Rattle.c5_frames.specs.Index.{Found, with_payload_place, with_txn, HasRoom}
 use Rattle.c5_frames.specs.DecoderStates.{DecodedState, so_far_of, IsDue, IsFoundBefore, Tracks, Faults, HasWhole}
 use Rattle.c5_frames.proofs.LawBytes.{after_bytes-append, after_bytes-part, after_bytes-whole}
 use Rattle.c5_frames.proofs.Indexing.{open-length, IsIndex-written, IsIndex-marked}
@@ -164,7 +164,7 @@ not_written s w above = rw (above, after_write) refl
 
 pub Tracks-written : (bytes : List ℕ) (tables : List TableDef) (at : ℕ) (found : Found) (size : ℕ) (w : Write) (t : Tracks bytes (payload_state tables at found size)) → at + size ≤ length bytes
     → frame_at tables (item_at bytes at size) ≡ Ok (write w) → is_above w.name (last_of t.writes) ≡ true
-    → Tracks bytes (behind_frame tables (at + size) (with_place found (record { at = at; size = size })))
+    → Tracks bytes (behind_frame tables (at + size) (with_payload_place found (record { at = at; size = size })))
 unfolding IsDue IsFoundBefore
 Tracks-written bytes tables at found size w t whole read above =
     let s = payload_state tables at found size in

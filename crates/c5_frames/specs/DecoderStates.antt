@@ -1,13 +1,18 @@
 -- How far a log has been read: what its decoder knows, and what that stands for.
-use Rattle.std.specs.Prelude.{◌≡◌, ◌<◌, ◌≤◌, ◌+◌, ◌-◌, ◌*◌, ℕ, List, [], length, drop, Option, Some, None, Result, Ok, Err}
-use Rattle.c5_rows.specs.Sizes.{max_log_bytes, min_payload_bytes, max_payload_bytes, max_tables, max_columns}
+use Rattle.std.specs.Prelude.{◌≡◌, ◌<◌, ◌≤◌, ◌+◌, ◌-◌, ◌*◌, ℕ, List, [], length, drop, Option, Some}
+use Rattle.std.specs.Prelude.{None, Result, Ok, Err}
+use Rattle.c5_rows.specs.Sizes.{max_log_bytes, min_payload_bytes, max_payload_bytes, max_tables}
+use Rattle.c5_rows.specs.Sizes.{max_columns}
 use Rattle.c5_rows.specs.Tables.{table_number}
 use Rattle.c5_rows.specs.declared.tables.TableDef.{TableDef}
 use Rattle.c5_rows.specs.declared.writes.Write.{Write}
 use Rattle.c5_rows.specs.declared.writes.Txn.{Txn}
 use Rattle.c5_definitions.specs.declared.fault.LogKind.{LogKind}
 use Rattle.c5_definitions.specs.declared.fault.LogFault.{LogFault}
-use Rattle.c5_definitions.specs.Items.{Item, the_magic, table_count, name_length, table_name, column_count, column_types, frame_length, frame_payload, nothing_more, size_of, begin_of, LogSoFar, Reading, after_item, after_bytes, at_start}
+use Rattle.c5_definitions.specs.Items.{Item, the_magic, table_count, name_length, table_name}
+use Rattle.c5_definitions.specs.Items.{column_count, column_types, frame_length, frame_payload}
+use Rattle.c5_definitions.specs.Items.{nothing_more, size_of, begin_of, LogSoFar, Reading}
+use Rattle.c5_definitions.specs.Items.{after_item, after_bytes, at_start}
 use Rattle.c5_definitions.specs.Steps.{◌>>=◌}
 use Rattle.c5_frames.specs.declared.decoder_state.DecoderState.{DecoderState}
 use Rattle.c5_frames.specs.Stages.{item_of}
@@ -26,11 +31,18 @@ pub record DecodedState : Type 0 where
   pub found : Found
 
 abbrev pub decoded_state : DecoderState → DecodedState
-decoded_state p = record { tables = tables_of p.schema; next = item_of p.stage; at = p.at; found = found_in p.index }
+decoded_state p =
+    record {
+      tables = tables_of p.schema;
+      next = item_of p.stage;
+      at = p.at;
+      found = found_in p.index;
+    }
 
 -- what has been read, with these transactions, and these writes behind them
 abbrev pub so_far_of : DecodedState → List Txn → List Write → LogSoFar
-so_far_of s txns writes = record { tables = s.tables; txns = txns; writes = writes; stamp = s.found.stamp; next = s.next }
+so_far_of s txns writes =
+    record { tables = s.tables; txns = txns; writes = writes; stamp = s.found.stamp; next = s.next }
 
 -- the same before the first byte of the next item
 abbrev pub reading_of : DecodedState → List Txn → List Write → Reading
@@ -47,13 +59,17 @@ IsDue the_magic tables = tables ≡ []
 IsDue table_count tables = tables ≡ []
 IsDue (name_length missing) tables = AreComing tables missing
 IsDue (table_name missing size) tables = AreComing tables missing × (1 ≤ size)
-IsDue (column_count missing name) tables = AreComing tables missing × (table_number name tables ≡ None)
-IsDue (column_types missing name size) tables = AreComing tables missing × (table_number name tables ≡ None) × (1 ≤ size) × (size ≤ max_columns)
+IsDue (column_count missing name) tables = AreComing tables missing
+    × (table_number name tables ≡ None)
+IsDue (column_types missing name size) tables = AreComing tables missing
+    × (table_number name tables ≡ None) × (1 ≤ size) × (size ≤ max_columns)
 IsDue frame_length tables = 1 ≤ length tables
-IsDue (frame_payload size) tables = (1 ≤ length tables) × (min_payload_bytes ≤ size) × (size ≤ max_payload_bytes)
+IsDue (frame_payload size) tables = (1 ≤ length tables) × (min_payload_bytes ≤ size)
+    × (size ≤ max_payload_bytes)
 IsDue nothing_more tables = 1 ≤ length tables
 
--- what has been found before an item: nothing before the first frame; behind the end mark no write is open
+-- what has been found before an item: nothing before the first frame; behind the end mark no write
+-- is open
 unfoldable pub IsFoundBefore : Item → Found → Type 0
 IsFoundBefore frame_length f = Unit {0}
 IsFoundBefore (frame_payload size) f = Unit {0}
@@ -80,7 +96,8 @@ pub record IsReady (bytes : List ℕ) (p : DecoderState) : Type 0 where
 
 -- the item that comes next is faulty
 abbrev pub Faults : List ℕ → DecodedState → LogKind → Type 0
-Faults bytes s kind = after_bytes at_start bytes ≡ Err (record { offset = begin_of s.next s.at; kind = kind })
+Faults bytes s kind = after_bytes at_start bytes
+    ≡ Err (record { offset = begin_of s.next s.at; kind = kind })
 
 -- the next item is there whole
 abbrev pub HasWhole : List ℕ → DecodedState → Type 0
@@ -88,7 +105,10 @@ HasWhole bytes s = s.at + size_of s.next ≤ length bytes
 
 -- what an item that is no payload leaves of the tables, and the item behind it
 abbrev pub tables_after : Item → List TableDef → List ℕ → Result (List TableDef × Item) LogKind
-tables_after item tables bytes = after_item item (record { tables = tables; txns = []; writes = []; stamp = 0; next = item }) bytes >>= λ s. Ok (s.tables, s.next)
+tables_after item tables bytes =
+    after_item item
+    (record { tables = tables; txns = []; writes = []; stamp = 0; next = item }) bytes
+    >>= λ s. Ok (s.tables, s.next)
 
 -- the item is no payload
 abbrev pub IsPlain : Item → Type 0
@@ -97,7 +117,8 @@ IsPlain item = Unit {0}
 
 -- what the bytes that were fed have come to: a fault, or a state with less than an item behind it
 abbrev pub ComesTo : List ℕ → DecoderState → Option LogFault → Type 0
-ComesTo bytes p None = Tracks bytes (decoded_state p) × (length bytes < p.at + size_of (item_of p.stage))
+ComesTo bytes p None = Tracks bytes (decoded_state p)
+    × (length bytes < p.at + size_of (item_of p.stage))
 ComesTo bytes p (Some fault) = after_bytes at_start bytes ≡ Err fault
 
 pub record Decodes (bytes : List ℕ) (p : DecoderState) (fault : Option LogFault) : Type 0 where

@@ -1,11 +1,13 @@
 -- What the law of logs says of lists of bytes.
-use Rattle.std.specs.Prelude.{◌≡◌, ◌≢◌, ◌↔◌, ◌<◌, ◌≤◌, ◌^◌, ℕ, List, [], ◌++◌, length, All, Some, None, Ok, Err}
+use Rattle.std.specs.Prelude.{◌≡◌, ◌≢◌, ◌↔◌, ◌<◌, ◌≤◌, ◌^◌, ℕ, List, [], ◌++◌, length, All, Some}
+use Rattle.std.specs.Prelude.{None, Ok, Err}
 use Rattle.c5_rows.specs.declared.tables.TableDef.{TableDef}
 use Rattle.c5_rows.specs.declared.writes.Txn.{Txn}
 use Rattle.c5_definitions.specs.declared.fault.LogKind.TheVariants as kinds
 use Rattle.c5_definitions.specs.declared.fault.LogFault.{LogFault}
 use Rattle.c5_definitions.specs.Lawful.{Spells}
-use Rattle.c5_definitions.specs.Items.{Reading, begin_of, after_bytes, at_start, log_of, log_fault_of}
+use Rattle.c5_definitions.specs.Items.{Reading, begin_of, after_bytes, at_start, log_of}
+use Rattle.c5_definitions.specs.Items.{log_fault_of}
 
 -- each number is a byte
 abbrev pub AreOctets : List ℕ → Type 0
@@ -35,7 +37,8 @@ LogsAreNoPrefixes = (prefix rest : List ℕ) → IsLog prefix → IsLog (prefix 
 
 -- a fault other than missing bytes stays, whatever follows
 abbrev pub FaultsStay : Type 0
-FaultsStay = (prefix rest : List ℕ) (fault : LogFault) → log_fault_of prefix ≡ Some fault → fault.kind ≢ kinds.Cut
+FaultsStay = (prefix rest : List ℕ) (fault : LogFault) → log_fault_of prefix ≡ Some fault
+    → fault.kind ≢ kinds.Cut
     → log_fault_of (prefix ++ rest) ≡ Some fault
 
 -- reading that has come to a fault reports it whatever follows, before the end and at it
@@ -47,7 +50,8 @@ FaultsAreFinal = (prefix rest : List ℕ) (fault : LogFault) → after_bytes at_
 abbrev pub PrefixesAreCut : Type 0
 PrefixesAreCut = (prefix rest : List ℕ) → AreOctets prefix → IsLog (prefix ++ rest) → rest ≢ []
     → (r : Reading) × (after_bytes at_start prefix ≡ Ok r)
-    × (log_fault_of prefix ≡ Some (record { offset = begin_of r.so_far.next r.offset; kind = kinds.Cut }))
+    × (log_fault_of prefix ≡ Some
+    (record { offset = begin_of r.so_far.next r.offset; kind = kinds.Cut }))
 
 -- bytes after a log are the fault, at the log's length
 abbrev pub NothingFollowsLogs : Type 0
@@ -56,4 +60,5 @@ NothingFollowsLogs = (log rest : List ℕ) → IsLog log → rest ≢ []
 
 -- a fault is at one of the bytes, or right after the last one
 abbrev pub FaultsAreWithin : Type 0
-FaultsAreWithin = (bytes : List ℕ) (fault : LogFault) → log_fault_of bytes ≡ Some fault → fault.offset ≤ length bytes
+FaultsAreWithin = (bytes : List ℕ) (fault : LogFault) → log_fault_of bytes ≡ Some fault
+    → fault.offset ≤ length bytes

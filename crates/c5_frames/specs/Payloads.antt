@@ -35,7 +35,8 @@ shown (write w) = named w.name
 shown (mark m) = marked m
 shown (end count) = ended count
 
--- the name of a write that a payload holds, or the numbers of a mark; or the kind of the first test that fails
+-- the name of a write that a payload holds, or the numbers of a mark; or the kind of the first test
+-- that fails
 abbrev pub shown_at : List TableDef → List ℕ → Result Shown LogKind
 shown_at tables payload = frame_at tables payload >>= λ frame. Ok (shown frame)
 

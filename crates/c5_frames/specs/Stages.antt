@@ -1,6 +1,8 @@
 -- The stages of the decoder as items of a log.
 use Rattle.std.specs.Prelude.{Bool, true, false}
-use Rattle.c5_definitions.specs.Items.{Item, the_magic, table_count, name_length, table_name, column_count, column_types, frame_length, frame_payload, nothing_more}
+use Rattle.c5_definitions.specs.Items.{Item, the_magic, table_count, name_length, table_name}
+use Rattle.c5_definitions.specs.Items.{column_count, column_types, frame_length, frame_payload}
+use Rattle.c5_definitions.specs.Items.{nothing_more}
 use Rattle.c5_frames.specs.declared.stage.Stage.{Stage}
 use Rattle.c5_frames.specs.declared.stage.Stage.TheVariants as stages
 

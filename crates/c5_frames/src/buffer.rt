@@ -1,6 +1,7 @@
 //! A log as it lies in memory.
 
-ghost use Rattle.std.specs.Prelude.{◌≡◌, ◌≤◌, ◌<◌, ◌+◌, ◌-◌, ℕ, Ok, Some, IfSome, length, take, slice_get, option_map};
+ghost use Rattle.std.specs.Prelude.{◌≡◌, ◌≤◌, ◌<◌, ◌+◌, ◌-◌, ℕ, Ok, Some, IfSome, length, take};
+ghost use Rattle.std.specs.Prelude.{slice_get, option_map};
 ghost use Rattle.c5_rows.specs.Sizes.{max_log_bytes};
 ghost use Rattle.c5_definitions.specs.Items.{LogParts, log_of};
 ghost use Rattle.c5_definitions.specs.Lawful.{Spells};
@@ -85,11 +86,15 @@ impl LogBuffer {
     /// The transaction of this number, which counts from 0.
     pub fn txn(&self, p: u32) -> TxnRef
         requires { p < length self.now.txns }
-        ensures entry { Some result ≡ option_map (txn_ref_of (length (writes_of (take p self.now.txns)) + 1)) (slice_get self.now.txns p) }
+        ensures entry { Some result
+            ≡ option_map (txn_ref_of (length (writes_of (take p self.now.txns)) + 1))
+            (slice_get self.now.txns p) }
         ensures some { 1 ≤ result.first }
         // Its writes are the ones from its first number on.
         ensures within { result.first + result.count ≤ length (writes_of self.now.txns) + 1 }
-        ensures writes { IfSome (slice_get self.now.txns p) (λ txn. (i : ℕ) → i < result.count → slice_get (writes_of self.now.txns) (result.first + i - 1) ≡ slice_get txn.writes i) }
+        ensures writes { IfSome (slice_get self.now.txns p)
+            (λ txn. (i : ℕ) → i < result.count
+            → slice_get (writes_of self.now.txns) (result.first + i - 1) ≡ slice_get txn.writes i) }
     {
         self.index.txns[p as usize]
     }

@@ -1,6 +1,7 @@
 //! Cells where they lie in bytes that passed their tests.
 
-ghost use Rattle.std.specs.Prelude.{◌≡◌, ◌<◌, ◌≤◌, [], Some, Ok, length, drop, slice_get, option_map};
+ghost use Rattle.std.specs.Prelude.{◌≡◌, ◌<◌, ◌≤◌, [], Some, Ok, length, drop, slice_get};
+ghost use Rattle.std.specs.Prelude.{option_map};
 ghost use Rattle.std.specs.Option.{option_and_then};
 ghost use Rattle.c5_rows.specs.Sizes.{max_columns};
 ghost use Rattle.c5_rows.specs.declared.cells.Cell.TheVariants.{Txt};
@@ -68,7 +69,8 @@ fn behind_cell(cell_type: CellType, bytes: &[u8]) -> &[u8]
 fn cells_from<'a>(columns: &[CellType], bytes: &'a [u8], col: usize) -> &'a [u8]
     requires row { HoldRow columns.now bytes.now }
     requires column { col < length columns.now }
-    ensures { cells_at (drop col columns.now) result.now ≡ Ok (drop col (cells_held columns.now bytes.now), []) }
+    ensures { cells_at (drop col columns.now) result.now
+        ≡ Ok (drop col (cells_held columns.now bytes.now), []) }
 {
     let mut rest = bytes;
     for cell_type in &columns[..col] {
@@ -91,7 +93,8 @@ pub fn cell_in(columns: &[CellType], bytes: &[u8], col: usize) -> Cell
 pub fn text_in<'a>(columns: &[CellType], bytes: &'a [u8], col: usize) -> Option<&'a [u8]>
     requires row { HoldRow columns.now bytes.now }
     requires column { col < length columns.now }
-    ensures { option_map (λ text. text.now) result ≡ option_and_then text_bytes_of (slice_get (cells_held columns.now bytes.now) col) }
+    ensures { option_map (λ text. text.now) result
+        ≡ option_and_then text_bytes_of (slice_get (cells_held columns.now bytes.now) col) }
 {
     let rest = cells_from(columns, bytes, col);
     match columns[col] {

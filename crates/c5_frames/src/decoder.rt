@@ -1,6 +1,7 @@
 //! The decoder of a log that comes in pieces.
 
-ghost use Rattle.std.specs.Prelude.{◌≡◌, ◌≤◌, ◌+◌, ◌-◌, ◌++◌, List, [], None, Ok, Err, IfOk, IfErr, OnOk, OnErr, length};
+ghost use Rattle.std.specs.Prelude.{◌≡◌, ◌≤◌, ◌+◌, ◌-◌, ◌++◌, List, [], None, Ok, Err, IfOk, IfErr};
+ghost use Rattle.std.specs.Prelude.{OnOk, OnErr, length};
 ghost use Rattle.c5_rows.specs.Sizes.{max_log_bytes};
 ghost use Rattle.c5_rows.specs.declared.tables.TableDef.{TableDef};
 ghost use Rattle.c5_rows.specs.declared.writes.Txn.{Txn};
@@ -42,7 +43,8 @@ fn take_piece(
     requires small { length bytes.old.items + length piece.now ≤ max_log_bytes }
     ensures state { decoded_state progress.new ≡ decoded_state progress.old }
     ensures ok { OnOk result (bytes.new.items ≡ bytes.old.items ++ piece.now) }
-    ensures room { OnOk result (HasRoom (length bytes.new.items - progress.new.at) progress.new.index) }
+    ensures room { OnOk result
+        (HasRoom (length bytes.new.items - progress.new.at) progress.new.index) }
     ensures err { OnErr result (bytes.new.items ≡ bytes.old.items) }
 {
     let behind = bytes.len() + piece.len() - progress.at as usize;
@@ -175,7 +177,8 @@ impl Decoder {
         self.bytes.len() as u32
     }
 
-    /// Takes the next piece. `NoMemory` changes nothing; `Log` is the fault of the bytes that were fed.
+    /// Takes the next piece. `NoMemory` changes nothing; `Log` is the fault of the bytes that were
+    /// fed.
     pub fn feed(&mut self, piece: &[u8]) -> Result<(), FeedFault>
         requires { length self.old + length piece.now ≤ max_log_bytes }
         ensures { Feeds self.old piece.now self.new result }
@@ -188,7 +191,8 @@ impl Decoder {
         ensures read { Finishes self result }
         ensures spelled { IfOk result (λ log. Spells self log.tables log.txns) }
         // Bytes with a fault are the spelling of no log.
-        ensures refused { IfErr result (λ fault. (tables : List TableDef) (txns : List Txn) → Spells self tables txns → ⊥) }
+        ensures refused { IfErr result
+            (λ fault. (tables : List TableDef) (txns : List Txn) → Spells self tables txns → ⊥) }
     {
         let Decoder {
             bytes,

@@ -3,7 +3,12 @@
 ghost use Rattle.std.specs.Prelude.{◌≡◌, ◌≤◌, ◌<◌, ◌^◌, ◌++◌, All, IfOk, OnOk, length, map};
 ghost use Rattle.std.specs.List.{flat_map};
 ghost use Rattle.c5_definitions.specs.Lawful.{IsLawfulLog, Spells};
-ghost use Rattle.c5_definitions.specs.Spelling.{spelled_u32, spelled_u64, spelled_type, spelled_table, spelled_header, spelled_cell, spelled_change, write_payload, mark_payload, end_payload, spelled_frame, spelled_txn, spelled_log};
+ghost use Rattle.c5_definitions.specs.Spelling.{spelled_u32, spelled_u64, spelled_type};
+ghost use Rattle.c5_definitions.specs.Spelling.{spelled_table, spelled_header, spelled_cell};
+ghost use Rattle.c5_definitions.specs.Spelling.{spelled_change, write_payload, mark_payload};
+ghost use Rattle.c5_definitions.specs.Spelling.{end_payload, spelled_frame, spelled_txn};
+ghost use Rattle.c5_definitions.specs.Spelling.{spelled_log};
+ghost use Rattle.c5_rows.specs.Sizes.{max_tables};
 
 use c5_rows::{Cell, CellType, Change, NoMemory, Schema, TableDef, Txn, Write};
 use std::alloc::Global;
@@ -55,7 +60,7 @@ fn push_table(out: &mut Vec<u8>, table: &TableDef) -> Result<(), NoMemory>
 
 #[tactic(auto, unfolding(c5_definitions::specs::Spelling::spelled_header))]
 fn push_header(out: &mut Vec<u8>, tables: &[TableDef]) -> Result<(), NoMemory>
-    requires { length tables.now ≤ 16 }
+    requires { length tables.now ≤ max_tables }
     ensures { OnOk result (out.new.items ≡ out.old.items ++ spelled_header tables.now) }
 {
     out.extend_from_slice(b"C5L1")?;
@@ -165,14 +170,16 @@ fn push_payload(out: &mut Vec<u8>, write: &Write) -> Result<(), NoMemory>
 
 #[tactic(auto, unfolding(c5_definitions::specs::Spelling::spelled_frame))]
 fn push_write(out: &mut Vec<u8>, write: &Write) -> Result<(), NoMemory>
-    ensures { OnOk result (out.new.items ≡ out.old.items ++ spelled_frame (write_payload write.now)) }
+    ensures { OnOk result (out.new.items ≡ out.old.items
+        ++ spelled_frame (write_payload write.now)) }
 {
     push_u32(out, payload_length(write))?;
     push_payload(out, write)
 }
 
 fn push_writes(out: &mut Vec<u8>, writes: &[Write]) -> Result<(), NoMemory>
-    ensures { OnOk result (out.new.items ≡ out.old.items ++ flat_map (λ write. spelled_frame (write_payload write)) writes.now) }
+    ensures { OnOk result (out.new.items ≡ out.old.items
+        ++ flat_map (λ write. spelled_frame (write_payload write)) writes.now) }
 {
     for write in writes {
         push_write(out, write)?;
@@ -222,14 +229,15 @@ fn push_txns(out: &mut Vec<u8>, txns: &[Txn]) -> Result<(), NoMemory>
     Ok(())
 }
 
-/// The one spelling of a log: the header, for each transaction a frame for each write and one for its
-/// commit mark, and a frame for the end mark.
+/// The one spelling of a log: the header, for each transaction a frame for each write and one for
+/// its commit mark, and a frame for the end mark.
 #[tactic(auto, unfolding(c5_definitions::specs::Spelling::spelled_log))]
 pub fn encode(alloc: Global, schema: &Schema, txns: &[Txn]) -> Result<Vec<u8>, NoMemory>
     requires txns { length txns.now < 2 ^ 32 }
     requires writes { All (λ txn. length txn.writes < 2 ^ 32) txns.now }
     ensures spelled { IfOk result (λ bytes. bytes.items ≡ spelled_log schema.now txns.now) }
-    ensures log { IfOk result (λ bytes. IsLawfulLog schema.now txns.now → Spells bytes.items schema.now txns.now) }
+    ensures log { IfOk result (λ bytes. IsLawfulLog schema.now txns.now
+        → Spells bytes.items schema.now txns.now) }
 {
     let mut out = Vec::new(alloc);
     push_header(&mut out, schema.tables())?;

@@ -1,6 +1,7 @@
 //! The payloads of frames.
 
-ghost use Rattle.std.specs.Prelude.{◌≡◌, ◌≤◌, ◌<◌, ◌+◌, ◌^◌, List, Ok, IfErr, OnOk, length, take, drop};
+ghost use Rattle.std.specs.Prelude.{◌≡◌, ◌≤◌, ◌<◌, ◌+◌, ◌^◌, List, Ok, IfErr, OnOk, length, take};
+ghost use Rattle.std.specs.Prelude.{drop};
 ghost use Rattle.std.specs.Ordering.{is_gt};
 ghost use Rattle.c5_rows.specs.Order.{row_name_cmp};
 ghost use Rattle.c5_rows.specs.declared.tables.TableDef.{TableDef};
@@ -39,9 +40,12 @@ fn is_above(name: NameRef, other: NameRef) -> bool
 
 // Whether the name is above that of the last write, where there is one since the last commit mark.
 fn is_above_last(bytes: &[u8], index: &Index, name: NameRef) -> bool
-    requires index { (tables : List TableDef) × (txns : List Txn) × (writes : List Write) × IsIndex bytes.now tables (found_in index.now) txns writes }
+    requires index { (tables : List TableDef) × (txns : List Txn) × (writes : List Write)
+        × IsIndex bytes.now tables (found_in index.now) txns writes }
     requires few { length index.now.places.items < 2 ^ 32 }
-    ensures { (tables : List TableDef) (txns : List Txn) (writes : List Write) → IsIndex bytes.now tables (found_in index.now) txns writes → result ≡ is_above (name_of name.entry) (last_of writes) }
+    ensures { (tables : List TableDef) (txns : List Txn) (writes : List Write)
+        → IsIndex bytes.now tables (found_in index.now) txns writes
+        → result ≡ is_above (name_of name.entry) (last_of writes) }
 {
     if index.open() == 0 {
         return true;
@@ -54,7 +58,8 @@ fn take_write(bytes: &[u8], p: &mut DecoderState, size: u32, name: NameRef) -> R
     requires ready { IsReady bytes.now p.old }
     requires stage { p.old.stage ≡ Stage.Payload size }
     requires whole { p.old.at + size ≤ length bytes.now }
-    requires shown { shown_at (tables_of p.old.schema) (take size (drop p.old.at bytes.now)) ≡ Ok (named (name_of name)) }
+    requires shown { shown_at (tables_of p.old.schema) (take size (drop p.old.at bytes.now))
+        ≡ Ok (named (name_of name)) }
     ensures ready { OnOk result (IsReady bytes.now p.new) }
     ensures further { OnOk result (p.old.at < p.new.at) }
     ensures fault { IfErr result (λ kind. Faults bytes.now (decoded_state p.old) kind) }
@@ -72,7 +77,8 @@ fn take_mark(bytes: &[u8], p: &mut DecoderState, size: u32, mark: Mark) -> Resul
     requires ready { IsReady bytes.now p.old }
     requires stage { p.old.stage ≡ Stage.Payload size }
     requires whole { p.old.at + size ≤ length bytes.now }
-    requires shown { shown_at (tables_of p.old.schema) (take size (drop p.old.at bytes.now)) ≡ Ok (marked (numbers_of mark)) }
+    requires shown { shown_at (tables_of p.old.schema) (take size (drop p.old.at bytes.now))
+        ≡ Ok (marked (numbers_of mark)) }
     ensures ready { OnOk result (IsReady bytes.now p.new) }
     ensures further { OnOk result (p.old.at < p.new.at) }
     ensures fault { IfErr result (λ kind. Faults bytes.now (decoded_state p.old) kind) }
@@ -93,7 +99,8 @@ fn take_end(bytes: &[u8], p: &mut DecoderState, size: u32, count: u32) -> Result
     requires ready { IsReady bytes.now p.old }
     requires stage { p.old.stage ≡ Stage.Payload size }
     requires whole { p.old.at + size ≤ length bytes.now }
-    requires shown { shown_at (tables_of p.old.schema) (take size (drop p.old.at bytes.now)) ≡ Ok (ended count) }
+    requires shown { shown_at (tables_of p.old.schema) (take size (drop p.old.at bytes.now))
+        ≡ Ok (ended count) }
     ensures ready { OnOk result (IsReady bytes.now p.new) }
     ensures further { OnOk result (p.old.at < p.new.at) }
     ensures fault { IfErr result (λ kind. Faults bytes.now (decoded_state p.old) kind) }

@@ -1,10 +1,14 @@
 //! The items that are no payload.
 
-ghost use Rattle.std.specs.Prelude.{◌≡◌, ◌≤◌, ◌<◌, ◌-◌, ◌==◌, ◌++◌, ◌∷◌, ℕ, List, [], None, is_some, length, if◌then◌else◌};
+ghost use Rattle.std.specs.Prelude.{◌≡◌, ◌≤◌, ◌<◌, ◌-◌, ◌==◌, ◌++◌, ◌∷◌, ℕ, List, [], None};
+ghost use Rattle.std.specs.Prelude.{is_some, length, if◌then◌else◌};
 ghost use Rattle.c5_rows.specs.Sizes.{max_columns, max_tables};
 ghost use Rattle.c5_rows.specs.Tables.{table_number};
 ghost use Rattle.c5_rows.specs.declared.tables.TableDef as the_table;
-ghost use Rattle.c5_definitions.specs.Items.{the_magic, table_count, name_length, table_name, column_count, column_types, frame_length, frame_payload, header_count, new_table_name, type_of_byte, types_of_bytes, size_of};
+ghost use Rattle.c5_definitions.specs.Items.{the_magic, table_count, name_length, table_name};
+ghost use Rattle.c5_definitions.specs.Items.{column_count, column_types, frame_length};
+ghost use Rattle.c5_definitions.specs.Items.{frame_payload, header_count, new_table_name};
+ghost use Rattle.c5_definitions.specs.Items.{type_of_byte, types_of_bytes, size_of};
 ghost use Rattle.c5_definitions.specs.Steps.{Gives};
 ghost use Rattle.c5_frames.specs.Stages.{item_of};
 ghost use Rattle.c5_frames.specs.DecoderStates.{tables_of, tables_after, AreComing, IsDue, IsPlain};
@@ -111,7 +115,8 @@ fn add_table(schema: &mut Option<Schema>, table: TableDef)
 
 #[tactic(auto, unfolding(c5_definitions::specs::Items::after_item))]
 fn after_magic(item: &[u8]) -> Result<Stage, LogKind>
-    ensures { (tables : List the_table.TableDef) → Gives (λ stage. (tables, item_of stage)) result (tables_after the_magic tables item.now) }
+    ensures { (tables : List the_table.TableDef)
+        → Gives (λ stage. (tables, item_of stage)) result (tables_after the_magic tables item.now) }
 {
     if item != MAGIC.as_slice() {
         return Err(LogKind::Magic);
@@ -121,7 +126,9 @@ fn after_magic(item: &[u8]) -> Result<Stage, LogKind>
 
 #[tactic(auto, unfolding(c5_definitions::specs::Items::after_item))]
 fn after_table_count(item: &[u8]) -> Result<Stage, LogKind>
-    ensures { (tables : List the_table.TableDef) → Gives (λ stage. (tables, item_of stage)) result (tables_after table_count tables item.now) }
+    ensures { (tables : List the_table.TableDef)
+        → Gives (λ stage. (tables, item_of stage)) result
+        (tables_after table_count tables item.now) }
 {
     match number_in(1, MAX_TABLES as u8, item) {
         Ok(missing) => Ok(Stage::NameLength { missing }),
@@ -131,7 +138,9 @@ fn after_table_count(item: &[u8]) -> Result<Stage, LogKind>
 
 #[tactic(auto, unfolding(c5_definitions::specs::Items::after_item))]
 fn after_name_length(missing: u8, item: &[u8]) -> Result<Stage, LogKind>
-    ensures { (tables : List the_table.TableDef) → Gives (λ stage. (tables, item_of stage)) result (tables_after (name_length missing) tables item.now) }
+    ensures { (tables : List the_table.TableDef)
+        → Gives (λ stage. (tables, item_of stage)) result
+        (tables_after (name_length missing) tables item.now) }
 {
     match number_in(1, MAX_NAME_BYTES as u8, item) {
         Ok(size) => Ok(Stage::NameBytes { missing, size }),
@@ -141,7 +150,8 @@ fn after_name_length(missing: u8, item: &[u8]) -> Result<Stage, LogKind>
 
 #[tactic(auto, unfolding(c5_definitions::specs::Items::after_item))]
 fn after_name(schema: &Option<Schema>, missing: u8, item: &[u8]) -> Result<Stage, LogKind>
-    ensures { (size : ℕ) → Gives (λ stage. (tables_of schema.now, item_of stage)) result (tables_after (table_name missing size) (tables_of schema.now) item.now) }
+    ensures { (size : ℕ) → Gives (λ stage. (tables_of schema.now, item_of stage)) result
+        (tables_after (table_name missing size) (tables_of schema.now) item.now) }
 {
     match name_in(schema, item) {
         Ok(name) => Ok(Stage::ColumnCount { missing, name }),
@@ -151,7 +161,9 @@ fn after_name(schema: &Option<Schema>, missing: u8, item: &[u8]) -> Result<Stage
 
 #[tactic(auto, unfolding(c5_definitions::specs::Items::after_item))]
 fn after_column_count(missing: u8, name: TableName, item: &[u8]) -> Result<Stage, LogKind>
-    ensures { (tables : List the_table.TableDef) → Gives (λ stage. (tables, item_of stage)) result (tables_after (column_count missing name) tables item.now) }
+    ensures { (tables : List the_table.TableDef)
+        → Gives (λ stage. (tables, item_of stage)) result
+        (tables_after (column_count missing name) tables item.now) }
 {
     match number_in(1, MAX_COLUMNS as u8, item) {
         Ok(size) => Ok(Stage::ColumnTypes {
@@ -174,7 +186,8 @@ fn after_column_types(
     requires few { length item.now ≤ max_columns }
     requires coming { AreComing (tables_of schema.old) missing }
     requires new { table_number name (tables_of schema.old) ≡ None }
-    ensures { (size : ℕ) → Gives (λ stage. (tables_of schema.new, item_of stage)) result (tables_after (column_types missing name size) (tables_of schema.old) item.now) }
+    ensures { (size : ℕ) → Gives (λ stage. (tables_of schema.new, item_of stage)) result
+        (tables_after (column_types missing name size) (tables_of schema.old) item.now) }
 {
     match columns_in(item) {
         Ok(columns) => {
@@ -203,7 +216,9 @@ fn stage_behind_table(missing: u8) -> Stage
 #[tactic(auto, unfolding(c5_definitions::specs::Items::after_item))]
 pub fn after_frame_length(item: &[u8]) -> Result<u32, LogKind>
     requires { 4 ≤ length item.now }
-    ensures { (tables : List the_table.TableDef) → Gives (λ size. (tables, frame_payload size)) result (tables_after frame_length tables item.now) }
+    ensures { (tables : List the_table.TableDef)
+        → Gives (λ size. (tables, frame_payload size)) result
+        (tables_after frame_length tables item.now) }
 {
     let size = u32_in(item);
     if size < MIN_PAYLOAD_BYTES || size > MAX_PAYLOAD_BYTES {
@@ -217,7 +232,8 @@ pub fn after_plain(schema: &mut Option<Schema>, stage: Stage, item: &[u8]) -> Re
     requires plain { IsPlain (item_of stage) }
     requires due { IsDue (item_of stage) (tables_of schema.old) }
     requires whole { length item.now ≡ size_of (item_of stage) }
-    ensures { Gives (λ next. (tables_of schema.new, item_of next)) result (tables_after (item_of stage) (tables_of schema.old) item.now) }
+    ensures { Gives (λ next. (tables_of schema.new, item_of next)) result
+        (tables_after (item_of stage) (tables_of schema.old) item.now) }
 {
     match stage {
         Stage::Magic => after_magic(item),

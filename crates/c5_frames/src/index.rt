@@ -1,6 +1,7 @@
 //! Where the writes of a log lie, and what its commit marks say.
 
-ghost use Rattle.std.specs.Prelude.{◌≡◌, ◌<◌, ◌≤◌, ◌+◌, ◌-◌, ◌^◌, ℕ, [], length, OnOk, vec_capacity};
+ghost use Rattle.std.specs.Prelude.{◌≡◌, ◌<◌, ◌≤◌, ◌+◌, ◌-◌, ◌^◌, ℕ, [], length, OnOk};
+ghost use Rattle.std.specs.Prelude.{vec_capacity};
 
 use crate::payload::Mark;
 use c5_rows::NoMemory;
@@ -38,7 +39,7 @@ pub struct Index {
     pub stamp: u64,
 }
 
-ghost use Rattle.c5_frames.specs.Index.{found_in, with_place, with_txn, HasRoom};
+ghost use Rattle.c5_frames.specs.Index.{found_in, with_payload_place, with_txn, HasRoom};
 
 impl Index {
     /// Nothing has been found.
@@ -76,7 +77,7 @@ impl Index {
     /// Adds a write.
     pub fn add_place(&mut self, place: Place)
         requires { length self.old.places.items < vec_capacity self.old.places }
-        ensures added { found_in self.new ≡ with_place (found_in self.old) place }
+        ensures added { found_in self.new ≡ with_payload_place (found_in self.old) place }
         ensures room { (bytes : ℕ) → HasRoom (bytes + 5) self.old → HasRoom bytes self.new }
     {
         match self.places.push(place) {

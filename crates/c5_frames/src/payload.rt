@@ -4,7 +4,8 @@ ghost use Rattle.std.specs.Prelude.{◌≡◌, if◌then◌else◌};
 ghost use Rattle.c5_rows.specs.Sizes.{max_key_bytes, max_text_bytes};
 ghost use Rattle.c5_rows.specs.Bytes.{is_key_byte, is_text_byte, checked_bytes};
 ghost use Rattle.c5_definitions.specs.Steps.{or_cause};
-ghost use Rattle.c5_definitions.specs.Frames.{key_at, int_at, text_at, cell_at, cells_at, row_at, change_at, mark_at, end_at};
+ghost use Rattle.c5_definitions.specs.Frames.{key_at, int_at, text_at, cell_at, cells_at, row_at};
+ghost use Rattle.c5_definitions.specs.Frames.{change_at, mark_at, end_at};
 
 use crate::numbers::{u32_in, u64_in};
 use c5_definitions::LogKind;
@@ -34,17 +35,20 @@ pub enum Checked<'a> {
     End(u32),
 }
 
-ghost use Rattle.c5_frames.specs.Payloads.{Passes, unread, shown_at, shown_by, numbers_of, name_of, name_at};
+ghost use Rattle.c5_frames.specs.Payloads.{Passes, unread, shown_at, shown_by, numbers_of, name_of};
+ghost use Rattle.c5_frames.specs.Payloads.{name_at};
 ghost use Rattle.c5_definitions.specs.Steps.{Gives};
 
 fn is_key(bytes: &[u8]) -> bool
-    ensures { or_cause LogKind.Key (checked_bytes 1 max_key_bytes is_key_byte bytes.now) ≡ (if result then Ok bytes.now else Err LogKind.Key) }
+    ensures { or_cause LogKind.Key (checked_bytes 1 max_key_bytes is_key_byte bytes.now)
+        ≡ (if result then Ok bytes.now else Err LogKind.Key) }
 {
     !bytes.is_empty() && bytes.len() <= MAX_KEY_BYTES && are_key_bytes(bytes)
 }
 
 fn is_text(bytes: &[u8]) -> bool
-    ensures { or_cause LogKind.Cell (checked_bytes 0 max_text_bytes is_text_byte bytes.now) ≡ (if result then Ok bytes.now else Err LogKind.Cell) }
+    ensures { or_cause LogKind.Cell (checked_bytes 0 max_text_bytes is_text_byte bytes.now)
+        ≡ (if result then Ok bytes.now else Err LogKind.Cell) }
 {
     bytes.len() <= MAX_TEXT_BYTES && are_text_bytes(bytes)
 }
@@ -193,8 +197,8 @@ fn end_in(bytes: &[u8]) -> Result<u32, LogKind>
     Ok(u32_in(bytes))
 }
 
-/// The name of the write that the payload holds, or the numbers of its mark; else the kind of the first
-/// of its own tests that it fails.
+/// The name of the write that the payload holds, or the numbers of its mark; else the kind of the
+/// first of its own tests that it fails.
 #[tactic(auto, unfolding(c5_definitions::specs::Frames::frame_at))]
 pub fn check_payload<'a>(tables: &[TableDef], payload: &'a [u8]) -> Result<Checked<'a>, LogKind>
     ensures { Gives shown_by result (shown_at tables.now payload.now) }

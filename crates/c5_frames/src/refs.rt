@@ -54,7 +54,8 @@ impl<'a> RowRef<'a> {
     /// The bytes of the text in column `col`; `None` exactly where the column holds numbers.
     pub fn text(&self, col: u8) -> Option<&'a [u8]>
         requires { col < length self.now }
-        ensures { option_map (λ text. text.now) result ≡ option_and_then text_bytes_of (slice_get self.now col) }
+        ensures { option_map (λ text. text.now) result
+            ≡ option_and_then text_bytes_of (slice_get self.now col) }
     {
         text_in(self.columns.types(), self.bytes, col as usize)
     }
@@ -91,7 +92,10 @@ impl<'a> Model for WriteRef<'a> {
 
     ghost Value = { Write };
 
-    ghost view = { λ w. record { name = record { table = w.table; key = w.key.now }; change = change_held w.columns w.bytes.now } };
+    ghost view = { λ w. record {
+      name = record { table = w.table; key = w.key.now };
+      change = change_held w.columns w.bytes.now;
+    } };
 
     ghost invariant = { λ w. HoldWrite w.key.now w.columns w.bytes.now };
 }
@@ -160,9 +164,12 @@ impl<'a> WriteRef<'a> {
 
 /// The name of the write that a payload holds.
 pub fn name_in<'a>(payload: &'a [u8]) -> NameRef<'a>
-    requires { (tables : List TableDef) × (w : Write) × (frame_at tables payload.now ≡ Ok (write w)) }
-    ensures table { (tables : List TableDef) (w : Write) → frame_at tables payload.now ≡ Ok (write w) → result.table ≡ w.name.table }
-    ensures key { (tables : List TableDef) (w : Write) → frame_at tables payload.now ≡ Ok (write w) → result.key.now ≡ w.name.key }
+    requires { (tables : List TableDef) × (w : Write)
+        × (frame_at tables payload.now ≡ Ok (write w)) }
+    ensures table { (tables : List TableDef) (w : Write)
+        → frame_at tables payload.now ≡ Ok (write w) → result.table ≡ w.name.table }
+    ensures key { (tables : List TableDef) (w : Write) → frame_at tables payload.now ≡ Ok (write w)
+        → result.key.now ≡ w.name.key }
 {
     let length = payload[2] as usize;
     NameRef {

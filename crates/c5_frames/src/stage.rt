@@ -6,8 +6,8 @@ ghost use Rattle.c5_frames.specs.Stages.{item_of, is_end};
 
 use c5_rows::TableName;
 
-/// The item that comes next, with what the ones before it say of it: how many tables are still to come, the
-/// name of the table whose columns come, how many bytes the item has.
+/// The item that comes next, with what the ones before it say of it: how many tables are still to
+/// come, the name of the table whose columns come, how many bytes the item has.
 #[derive(Clone, Copy, Debug, PartialEq, Eq)]
 pub enum Stage {
     Magic,

@@ -1,6 +1,7 @@
 // The trusted edge: what std's readers and writers tell of their bytes is passed on.
 ghost use Rattle.std.specs.Prelude.{◌≡◌, false};
-ghost use Rattle.c5_io.specs.Adapters.{reader_of, source_faults, writer_of, sink_faults, is_flushed};
+ghost use Rattle.c5_io.specs.Adapters.{reader_of, source_faults, writer_of, sink_faults};
+ghost use Rattle.c5_io.specs.Adapters.{is_flushed};
 
 use crate::{Failed, Sink, Source};
 use std::io::{Read, Write};
@@ -47,7 +48,8 @@ pub struct StdSink<W: Write> {
 }
 
 impl<W: Write> StdSink<W> {
-    /// Each `Err` of the writer is a fault, and so is a write of 0 bytes of a piece that isn't empty.
+    /// Each `Err` of the writer is a fault, and so is a write of 0 bytes of a piece that isn't
+    /// empty.
     pub fn new(writer: W) -> Self
         ensures writer { writer_of result ≡ writer }
         ensures faults { sink_faults result ≡ 0 }

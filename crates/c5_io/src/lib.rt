@@ -1,4 +1,5 @@
-//! Sources and sinks of bytes that count their faults, in memory and over std's readers and writers.
+//! Sources and sinks of bytes that count their faults, in memory and over std's readers and
+//! writers.
 #![tactic(auto)]
 
 mod adapters;

@@ -1,8 +1,12 @@
-ghost use Rattle.std.specs.Prelude.{[], ◌≡◌, ◌+◌, ◌≤◌, ◌<◌, ◌↔◌, min, length, take, drop, ◌++◌, Contains, Some, IfOk, IsOk, IsErr, OnOk, OnErr, is_ok, false, Ok};
+ghost use Rattle.std.specs.Prelude.{[], ◌≡◌, ◌+◌, ◌≤◌, ◌<◌, ◌↔◌, min, length, take, drop, ◌++◌};
+ghost use Rattle.std.specs.Prelude.{Contains, Some, IfOk, IsOk, IsErr, OnOk, OnErr, is_ok, false};
+ghost use Rattle.std.specs.Prelude.{Ok};
 ghost use Rattle.std.specs.Io.{ReadsAtMost, WritesAtMost};
 ghost use Rattle.std.specs.Io.KnownBytes.{ReadConsumes, WriteAppends, Keeps};
 ghost use Rattle.c5_rows.specs.Counts.{HasCause};
-ghost use Rattle.c5_io.specs.Memory.{SourceState, ReadFails, read_count, after_read, after_failed_read, FailsByNumber, WriteFails, write_count, after_taken, after_flush, after_failed_call};
+ghost use Rattle.c5_io.specs.Memory.{SourceState, ReadFails, read_count, after_read};
+ghost use Rattle.c5_io.specs.Memory.{after_failed_read, FailsByNumber, WriteFails, bytes_taken};
+ghost use Rattle.c5_io.specs.Memory.{after_taken, after_flush, after_failed_call};
 
 use crate::{Failed, Sink, Source};
 use c5_rows::NoMemory;
@@ -26,7 +30,13 @@ impl Model for MemorySource {
 
     ghost Value = { SourceState };
 
-    ghost view = { λ s. record { left = drop s.at s.bytes.items; step = s.step; fails = s.fails.items; calls = s.calls; faults = s.faults } };
+    ghost view = { λ s. record {
+      left = drop s.at s.bytes.items;
+      step = s.step;
+      fails = s.fails.items;
+      calls = s.calls;
+      faults = s.faults;
+    } };
 
     ghost invariant = { λ s. (s.at ≤ length s.bytes.items) × (1 ≤ s.step) };
 }
@@ -36,7 +46,14 @@ impl MemorySource {
     /// others. From call `u64::MAX` on each has that number.
     pub fn new(bytes: Vec<u8>, step: usize, fails: Vec<u64>) -> Self
         requires { 1 ≤ step }
-        ensures { result ≡ record { left = bytes.items; step = step; fails = fails.items; calls = 0; faults = 0 } }
+        ensures { result
+            ≡ record {
+              left = bytes.items;
+              step = step;
+              fails = fails.items;
+              calls = 0;
+              faults = 0;
+            } }
     {
         MemorySource {
             bytes,
@@ -155,9 +172,18 @@ impl Model for MemorySink {
 
     ghost Value = { SinkState };
 
-    ghost view = { λ s. record { held = s.bytes.items; room = s.room; step = s.step; fails = s.fails.items; calls = s.calls; faults = s.faults; flushed = s.flushed } };
+    ghost view = { λ s. record {
+      held = s.bytes.items;
+      room = s.room;
+      step = s.step;
+      fails = s.fails.items;
+      calls = s.calls;
+      faults = s.faults;
+      flushed = s.flushed;
+    } };
 
-    ghost invariant = { λ s. (length s.bytes.items ≤ s.room) × (s.room ≤ vec_capacity s.bytes) × (1 ≤ s.step) };
+    ghost invariant = { λ s. (length s.bytes.items ≤ s.room) × (s.room ≤ vec_capacity s.bytes)
+        × (1 ≤ s.step) };
 }
 
 impl MemorySink {
@@ -213,7 +239,7 @@ impl Sink for MemorySink {
 
         // The same, exactly.
         ensures fails { IsErr result ↔ WriteFails self.old piece.now }
-        ensures count { IfOk result (λ n. n ≡ write_count self.old (length piece.now)) }
+        ensures count { IfOk result (λ n. n ≡ bytes_taken self.old (length piece.now)) }
         ensures ok { IfOk result (λ n. self.new ≡ after_taken self.old (take n piece.now)) }
         ensures err { OnErr result (self.new ≡ after_failed_call self.old) }
     {

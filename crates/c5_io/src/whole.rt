@@ -1,4 +1,5 @@
-ghost use Rattle.std.specs.Prelude.{◌≡◌, ◌+◌, ◌-◌, ◌^◌, ◌<◌, ◌≤◌, false, List, ℕ, length, take, drop, vec_len, IfOk, IfSome, OnOk, OnErr, IsErrOf, []};
+ghost use Rattle.std.specs.Prelude.{◌≡◌, ◌+◌, ◌-◌, ◌^◌, ◌<◌, ◌≤◌, false, List, ℕ, length, take};
+ghost use Rattle.std.specs.Prelude.{drop, vec_len, IfOk, IfSome, OnOk, OnErr, IsErrOf, []};
 ghost use Rattle.std.specs.Io.KnownBytes.{Appends, Consumes, IsAtEnd, Keeps};
 ghost use Rattle.c5_rows.specs.Counts.{HasCause};
 ghost use Rattle.c5_io.specs.Whole.{Loses, LosesAtMost, AppendsPart, HasReadCause};
@@ -6,26 +7,31 @@ ghost use Rattle.c5_io.specs.Whole.{Loses, LosesAtMost, AppendsPart, HasReadCaus
 use crate::{Failed, InFault, Sink, Source};
 use std::alloc::{AllocError, Global};
 
-// The room that each read is offered: large, so that an input of many megabytes takes few calls, and
-// small enough to stay in a processor's cache between the zeros and the bytes.
+// The room that each read is offered: large, so that an input of many megabytes takes few calls,
+// and small enough to stay in a processor's cache between the zeros and the bytes.
 const CHUNK: usize = 128 * 1024;
 
-/// Reads to the end of the source. It takes at most `limit + 1` bytes, and reports `TooLong` as soon as
-/// it has taken that many; `Failed` and `NoMemory` come before that.
+/// Reads to the end of the source. It takes at most `limit + 1` bytes, and reports `TooLong` as
+/// soon as it has taken that many; `Failed` and `NoMemory` come before that.
 pub fn read_all<S: Source>(alloc: Global, source: &mut S, limit: usize) -> Result<Vec<u8>, InFault>
     requires { limit < usize.MAX }
 
     // Ok: all that was left, and the end was met.
     ensures whole { IfOk result (λ bytes. IfSome (S.left source.old) (λ left. bytes.items ≡ left)) }
-    ensures taken { IfOk result (λ bytes. Consumes (S.left source.old) (S.left source.new) bytes.items) }
+    ensures taken { IfOk result
+        (λ bytes. Consumes (S.left source.old) (S.left source.new) bytes.items) }
     ensures end { OnOk result (IsAtEnd (S.left source.new)) }
     ensures within { IfOk result (λ bytes. length bytes.items ≤ limit) }
 
     // Otherwise the bytes that were taken are lost.
-    ensures too_long { IsErrOf result InFault.TooLong → IfSome (S.left source.old) (λ left. limit < length left) }
-    ensures one_more { IsErrOf result InFault.TooLong → Loses (S.left source.old) (S.left source.new) (limit + 1) }
-    ensures failed { IsErrOf result InFault.Failed → LosesAtMost (S.left source.old) (S.left source.new) limit }
-    ensures no_memory { IsErrOf result InFault.NoMemory → LosesAtMost (S.left source.old) (S.left source.new) limit }
+    ensures too_long { IsErrOf result InFault.TooLong
+        → IfSome (S.left source.old) (λ left. limit < length left) }
+    ensures one_more { IsErrOf result InFault.TooLong
+        → Loses (S.left source.old) (S.left source.new) (limit + 1) }
+    ensures failed { IsErrOf result InFault.Failed
+        → LosesAtMost (S.left source.old) (S.left source.new) limit }
+    ensures no_memory { IsErrOf result InFault.NoMemory
+        → LosesAtMost (S.left source.old) (S.left source.new) limit }
 
     ensures cause { HasReadCause (S.faults source.old) (S.faults source.new) result }
 {
@@ -66,7 +72,8 @@ fn read_tail<S: Source>(source: &mut S, bytes: &mut [u8], at: usize) -> Result<u
     requires { at < length bytes.old }
     ensures front { take at bytes.new ≡ take at bytes.old }
     ensures fits { IfOk result (λ n. at + n ≤ length bytes.new) }
-    ensures ok { IfOk result (λ n. Consumes (S.left source.old) (S.left source.new) (take n (drop at bytes.new))) }
+    ensures ok { IfOk result
+        (λ n. Consumes (S.left source.old) (S.left source.new) (take n (drop at bytes.new))) }
     ensures end { IfOk result (λ n. n ≡ 0 → IsAtEnd (S.left source.new)) }
     ensures err { OnErr result (Keeps (S.left source.old) (S.left source.new)) }
     ensures cause { HasCause (S.faults source.old) (S.faults source.new) result }
@@ -74,7 +81,8 @@ fn read_tail<S: Source>(source: &mut S, bytes: &mut [u8], at: usize) -> Result<u
     source.read(&mut bytes[at..])
 }
 
-/// Writes all the bytes, in as many calls as the sink needs, and doesn't flush. Of no bytes it makes no call.
+/// Writes all the bytes, in as many calls as the sink needs, and doesn't flush. Of no bytes it
+/// makes no call.
 #[tactic(auto, using(crate::proofs::Filling::appends_more))]
 pub fn write_all<K: Sink>(sink: &mut K, bytes: &[u8]) -> Result<(), Failed>
     ensures ok { OnOk result (Appends (K.held sink.old) (K.held sink.new) bytes.now) }

@@ -16,7 +16,8 @@ use Rattle.c5_definitions.specs.declared.history.Entry.{Entry}
 use Rattle.c5_definitions.specs.declared.history.Event.{Event}
 use Rattle.c5_definitions.specs.declared.history.Event.TheVariants.{Begin, Read, Commit as Commits, Cancel}
 use Rattle.c5_definitions.specs.declared.history.OrderBase.{OrderBase}
-use Rattle.c5_definitions.specs.History.{Begun, VersionRead, begun, commits, ended, is_among, open_txns, last_begun, last_stamp, writes_row, version_in, version_at, reads}
+use Rattle.c5_definitions.specs.History.{Begun, VersionRead, begun, commits, ended, open_txns, last_begun, last_stamp, writes_row, version_in, version_at, reads}
+use Rattle.c5_rows.specs.Numbers.{is_among}
 use Rattle.c5_definitions.specs.OrderLog.{Conflict, reads_version, conflicts_on, conflicts, txn_of, committed, committed_stamp, open_stamp, IsOpen, BeginsNext, Allows, AllowsFrom, IsOrderHistory}
 use Rattle.c5_order.proofs.Versions.{Commit, contains-head, contains-tail}
 use Rattle.c5_order.proofs.Histories.{entry, begun-push, commits-push, ended-push, reads-push, allowed-from, open-begun, begun-open, filter-keeps, uncommitted, outcome-in, IsLive, Sound, sound-nothing}

@@ -8,7 +8,8 @@ use Rattle.c5_rows.specs.declared.writes.Write.{Write}
 use Rattle.c5_rows.specs.declared.writes.Txn.{Txn}
 use Rattle.c5_definitions.specs.declared.history.Entry.{Entry}
 use Rattle.c5_definitions.specs.declared.history.OrderBase.{OrderBase}
-use Rattle.c5_definitions.specs.History.{Begun, begun, commits, ended, is_among, open_txns}
+use Rattle.c5_definitions.specs.History.{Begun, begun, commits, ended, open_txns}
+use Rattle.c5_rows.specs.Numbers.{is_among}
 use Rattle.c5_definitions.specs.OrderLog.{committed, committed_stamp, open_stamp, IsOpen}
 use Rattle.c5_order.specs.declared.book.BodyState.{BodyState}
 use Rattle.c5_order.specs.declared.book.BodyState.TheVariants.{Free, Open, Committed}

@@ -18,7 +18,7 @@ use Rattle.c5_order.specs.declared.marks.VersionKey.{VersionKey}
 use Rattle.c5_order.specs.declared.marks.Found.{Found}
 use Rattle.c5_order.specs.declared.marks.LaterReader.{LaterReader}
 use Rattle.c5_order.specs.declared.book.Book.{Book}
-use Rattle.c5_order.specs.Marks.{IsFoundBefore, IsUnread, IsFirstRead}
+use Rattle.c5_order.specs.Marks.{IsMarkFoundBefore, IsUnread, IsFirstRead}
 use Rattle.c5_order.specs.Book.{greatest_reader, HoldsBook, base_of}
 use Rattle.c5_order.proofs.Versions.{contains-head}
 use Rattle.c5_order.proofs.Histories.{filter-keeps}
@@ -53,7 +53,7 @@ filter-in p P (x ∷ xs) all = by (p x) refl (filter-in p P xs (All-tail (λ x. 
 
 module _ (book : Book) (holds : HoldsBook book) (s : ℕ) where
   -- the reader of a conflict is at most the greatest reader of its version
-  reader-most : (w : Write) (found : Found) → IsFoundBefore book.versions w.name s found → All (λ r. reads_version w.name s (version_at book.history.items w.name s) r ≡ true → (r.reader ≤ found.read_by) × (s < r.reader)) (reads book.history.items)
+  reader-most : (w : Write) (found : Found) → IsMarkFoundBefore book.versions w.name s found → All (λ r. reads_version w.name s (version_at book.history.items w.name s) r ≡ true → (r.reader ≤ found.read_by) × (s < r.reader)) (reads book.history.items)
   reader-most w found is = All-weaker (Contains (reads book.history.items)) (λ r. reads_version w.name s (version_at book.history.items w.name s) r ≡ true → (r.reader ≤ found.read_by) × (s < r.reader)) (λ r there e.
       let p = and_parts (is_eq (row_name_cmp r.name w.name) && ltb s r.reader) (eqb r.version (version_at book.history.items w.name s)) e in
       let q = and_parts (is_eq (row_name_cmp r.name w.name)) (ltb s r.reader) p.0 in
@@ -81,7 +81,7 @@ module _ (book : Book) (holds : HoldsBook book) (s : ℕ) where
   abbrev Fits : RowName → ℕ → Conflict → Type 0
   Fits row reader c = (is_gt (row_name_cmp row c.row) ≡ false) × (c.row ≡ row → c.reader ≤ reader)
 
-  each-fits : (before : List Write) (write : Write) (rest : List Write) (found : Found) → IsAscending (before ++ write ∷ rest) → All (IsUnread book.versions s) before → IsFoundBefore book.versions write.name s found
+  each-fits : (before : List Write) (write : Write) (rest : List Write) (found : Found) → IsAscending (before ++ write ∷ rest) → All (IsUnread book.versions s) before → IsMarkFoundBefore book.versions write.name s found
       → All (Fits write.name found.read_by) (flat_map (conflicts_on book.history.items s) (before ++ write ∷ rest))
   each-fits before write rest found up unread is = all-flat_map (Fits write.name found.read_by) (conflicts_on book.history.items s) (before ++ write ∷ rest)
       (All-append (λ w. All (Fits write.name found.read_by) (conflicts_on book.history.items s w)) before (write ∷ rest)

@@ -20,7 +20,8 @@ use Rattle.c5_definitions.specs.declared.history.Event.TheVariants.{Begin, Read,
 use Rattle.c5_definitions.specs.declared.history.OrderBase.{OrderBase}
 use Rattle.c5_definitions.specs.Follows.{Follows}
 use Rattle.c5_definitions.specs.SerialRun.{body_at}
-use Rattle.c5_definitions.specs.History.{Begun, VersionRead, begun_in, committed_in, ended_in, begun, commits, ended, is_among, open_txns, last_begun, last_stamp, writes_row, version_in, version_at, left_by, row_of_version, value_at, read_in, reads_from, reads, answered}
+use Rattle.c5_definitions.specs.History.{Begun, VersionRead, begun_in, committed_in, ended_in, begun, commits, ended, open_txns, last_begun, last_stamp, writes_row, version_in, version_at, left_by, row_of_version, row_seen, read_in, reads_from, reads, answered}
+use Rattle.c5_rows.specs.Numbers.{is_among}
 use Rattle.c5_definitions.specs.OrderLog.{Conflict, reads_version, conflicts_on, conflicts, IsOpen, IsOutcome, BeginsNext, Allows, AllowsFrom, IsOrderHistory}
 use Rattle.c5_order.proofs.Versions.{Commit, seen, version_in-push_no, version_in-push_yes, version_in-attained, version_in-narrow, contains-head, contains-tail, lookup-contains, lookup-more, lookup-push, lookup-none}
 

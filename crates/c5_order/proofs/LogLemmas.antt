@@ -14,8 +14,9 @@ use Rattle.c5_rows.specs.declared.writes.Txn.{Txn}
 use Rattle.c5_definitions.specs.declared.history.Entry.{Entry}
 use Rattle.c5_definitions.specs.declared.history.Event.{Event}
 use Rattle.c5_definitions.specs.declared.history.Event.TheVariants.{Begin, Read, Commit as Commits, Cancel}
-use Rattle.c5_definitions.specs.History.{Begun, begun, commits, ended, is_among, open_txns}
-use Rattle.c5_definitions.specs.OrderLog.{txn_of, committed, log_of, IsOpen}
+use Rattle.c5_definitions.specs.History.{Begun, begun, commits, ended, open_txns}
+use Rattle.c5_rows.specs.Numbers.{is_among}
+use Rattle.c5_definitions.specs.OrderLog.{txn_of, committed, history_log, IsOpen}
 use Rattle.c5_order.specs.declared.book.TxnState.{TxnState}
 use Rattle.c5_order.specs.declared.book.Book.{Book}
 use Rattle.c5_order.specs.Book.{HoldsTxn, HoldsPlace, HoldsBook, is_open, IsClosedCount, base_of, committed_at, committed_at_entry, logged_one, logged}
@@ -84,8 +85,8 @@ log-committed book n holds (inl none) =
 log-committed book n holds (inr (s, at, o, all)) =
     log-walk (commits book.history.items) (open_txns book.history.items) o.0 book.first s (begun book.history.items) n (sound-of book holds).counted at o.1 o.2 all
 
-pub log-is : (book : Book) (n : ℕ) → HoldsBook book → IsClosedCount book n → logged book.history.items (take n book.txns.items) ≡ log_of book.history.items
-unfolding log_of
+pub log-is : (book : Book) (n : ℕ) → HoldsBook book → IsClosedCount book n → logged book.history.items (take n book.txns.items) ≡ history_log book.history.items
+unfolding history_log
 log-is book n holds closed =
     logged-front book.history.items (begun book.history.items) book.txns.items n holds.txns
     ∙ sym (log-committed book n holds closed)

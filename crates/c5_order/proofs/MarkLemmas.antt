@@ -20,7 +20,7 @@ use Rattle.c5_order.proofs.Allowed.{equal_names}
 use Rattle.c5_rows.specs.Order.{row_name_cmp, row_name_cmp_total, row_name_cmp_exact}
 use Rattle.c5_order.specs.declared.marks.VersionKey.{VersionKey}
 use Rattle.c5_order.specs.declared.marks.Found.{Found}
-use Rattle.c5_order.specs.Marks.{version_key_cmp, version_key, mark_at, IsFoundBefore, marked, removed, installed}
+use Rattle.c5_order.specs.Marks.{version_key_cmp, version_key, noted_mark, IsMarkFoundBefore, marked, removed, mark_after_install}
 
 -- ---- the order
 
@@ -90,14 +90,14 @@ version_key_exact a b e =
 -- ---- the version that is found
 
 pub found-some : (m : BTreeMap VersionKey ℕ) (name : RowName) (s : ℕ) (r t : List (VersionKey × ℕ)) (key : VersionKey) (n : ℕ)
-    → IsRangeOf version_key_cmp (Included (version_key name 0)) (Excluded (version_key name s)) m r → r ≡ t ++ (key, n) ∷ [] → IsFoundBefore m name s (record { wrote = key.wrote; read_by = n })
+    → IsRangeOf version_key_cmp (Included (version_key name 0)) (Excluded (version_key name s)) m r → r ≡ t ++ (key, n) ∷ [] → IsMarkFoundBefore m name s (record { wrote = key.wrote; read_by = n })
 found-some m name s r t key n range is =
     let here = range.3 (key, n) t is in
     let place = in-row name s key here.0.0 here.0.1 in
     let same : key ≡ version_key name key.wrote = ap (λ x. version_key x key.wrote) place.0 in
-    let at : mark_at m (version_key name key.wrote) ≡ Some n = subst (λ k. mark_at m k ≡ Some n) same here.1 in
+    let at : noted_mark m (version_key name key.wrote) ≡ Some n = subst (λ k. noted_mark m k ≡ Some n) same here.1 in
     record {
-      entry = λ z. sym (ap (λ o. unwrap_or o 0) (subst (λ w. mark_at m (version_key name w) ≡ Some n) z at));
+      entry = λ z. sym (ap (λ o. unwrap_or o 0) (subst (λ w. noted_mark m (version_key name w) ≡ Some n) z at));
       there = λ some. (place.1, at);
       greatest = λ w lt has. ge_from_not_lt key.wrote w
           (sym (ap is_lt (ap (λ x. version_key_cmp (version_key x key.wrote) (version_key name w)) place.0 ∙ same-row-less name key.wrote w))
@@ -105,11 +105,11 @@ found-some m name s r t key n range is =
     }
 
 pub found-none : (m : BTreeMap VersionKey ℕ) (name : RowName) (s : ℕ) (r : List (VersionKey × ℕ))
-    → IsRangeOf version_key_cmp (Included (version_key name 0)) (Excluded (version_key name s)) m r → r ≡ [] → 1 ≤ s → IsFoundBefore m name s (record { wrote = 0; read_by = 0 })
+    → IsRangeOf version_key_cmp (Included (version_key name 0)) (Excluded (version_key name s)) m r → r ≡ [] → 1 ≤ s → IsMarkFoundBefore m name s (record { wrote = 0; read_by = 0 })
 found-none m name s r range is some = record {
   entry = λ z. sym (ap (λ o. unwrap_or o 0) (range.5 is (version_key name 0) (start-first name 0, same-row-less name 0 s ∙ less-nat 0 s some)));
   there = λ above. absurd (omega arith);
-  greatest = λ w lt has. absurd (not_some (mark_at m (version_key name w)) has (range.5 is (version_key name w) (start-first name w, same-row-less name w s ∙ less-nat w s lt)));
+  greatest = λ w lt has. absurd (not_some (noted_mark m (version_key name w)) has (range.5 is (version_key name w) (start-first name w, same-row-less name w s ∙ less-nat w s lt)));
 } where
   not_some : (o : Option ℕ) → IsSome o → o ≡ None → ⊥
   not_some None h e = absurd cc
@@ -125,18 +125,18 @@ at-key key q e = sym (version_key_exact key q (by (version_key_cmp key q) e))
     by Equal e = refl
     by Greater e = absurd cc
 
-pub marked-some : (m : BTreeMap VersionKey ℕ) (key : VersionKey) (stamp n v : ℕ) (q : VersionKey) → mark_at m key ≡ Some n → v ≡ max n stamp → cond (is_at (version_key_cmp key) q) (Some v) (mark_at m q) ≡ marked key stamp q (mark_at m q)
+pub marked-some : (m : BTreeMap VersionKey ℕ) (key : VersionKey) (stamp n v : ℕ) (q : VersionKey) → noted_mark m key ≡ Some n → v ≡ max n stamp → cond (is_at (version_key_cmp key) q) (Some v) (noted_mark m q) ≡ marked key stamp q (noted_mark m q)
 marked-some m key stamp n v q has is = by (is_at (version_key_cmp key) q) refl
   where
-    by : (b : Bool) → is_at (version_key_cmp key) q ≡ b → cond b (Some v) (mark_at m q) ≡ cond b (Some (max (unwrap_or (mark_at m q) 0) stamp)) (mark_at m q)
-    by true e = ap Some (is ∙ ap (λ o. max (unwrap_or o 0) stamp) (sym (ap (mark_at m) (at-key key q e) ∙ has)))
+    by : (b : Bool) → is_at (version_key_cmp key) q ≡ b → cond b (Some v) (noted_mark m q) ≡ cond b (Some (max (unwrap_or (noted_mark m q) 0) stamp)) (noted_mark m q)
+    by true e = ap Some (is ∙ ap (λ o. max (unwrap_or o 0) stamp) (sym (ap (noted_mark m) (at-key key q e) ∙ has)))
     by false e = refl
 
-pub marked-none : (m : BTreeMap VersionKey ℕ) (key : VersionKey) (stamp : ℕ) (q : VersionKey) → mark_at m key ≡ None → cond (is_at (version_key_cmp key) q) (Some stamp) (mark_at m q) ≡ marked key stamp q (mark_at m q)
+pub marked-none : (m : BTreeMap VersionKey ℕ) (key : VersionKey) (stamp : ℕ) (q : VersionKey) → noted_mark m key ≡ None → cond (is_at (version_key_cmp key) q) (Some stamp) (noted_mark m q) ≡ marked key stamp q (noted_mark m q)
 marked-none m key stamp q has = by (is_at (version_key_cmp key) q) refl
   where
-    by : (b : Bool) → is_at (version_key_cmp key) q ≡ b → cond b (Some stamp) (mark_at m q) ≡ cond b (Some (max (unwrap_or (mark_at m q) 0) stamp)) (mark_at m q)
-    by true e = ap Some (let z : max 0 stamp ≡ stamp = omega arith in sym z ∙ ap (λ o. max (unwrap_or o 0) stamp) (sym (ap (mark_at m) (at-key key q e) ∙ has)))
+    by : (b : Bool) → is_at (version_key_cmp key) q ≡ b → cond b (Some stamp) (noted_mark m q) ≡ cond b (Some (max (unwrap_or (noted_mark m q) 0) stamp)) (noted_mark m q)
+    by true e = ap Some (let z : max 0 stamp ≡ stamp = omega arith in sym z ∙ ap (λ o. max (unwrap_or o 0) stamp) (sym (ap (noted_mark m) (at-key key q e) ∙ has)))
     by false e = refl
 
 -- ---- versions that are put in and taken out
@@ -157,7 +157,7 @@ removed-more stamp w ws q old m n e f = e ∙ ap (λ b. cond b None m) (key-test
     by true false f = f
     by false b f = f
 
-pub installed-more : (stamp : ℕ) (w : Write) (ws : List Write) (q : VersionKey) (old m n : Option ℕ) → n ≡ cond (is_at (version_key_cmp (version_key w.name stamp)) q) (Some 0) m → m ≡ installed stamp ws q old → n ≡ installed stamp (w ∷ ws) q old
+pub installed-more : (stamp : ℕ) (w : Write) (ws : List Write) (q : VersionKey) (old m n : Option ℕ) → n ≡ cond (is_at (version_key_cmp (version_key w.name stamp)) q) (Some 0) m → m ≡ mark_after_install stamp ws q old → n ≡ mark_after_install stamp (w ∷ ws) q old
 installed-more stamp w ws q old m n e f = e ∙ ap (λ b. cond b (Some 0) m) (key-test w.name stamp q) ∙ by (eqb q.wrote stamp) (is_eq (row_name_cmp q.name w.name)) f
   where
     by : (a b : Bool) → m ≡ cond (a && writes_row q.name ws) (Some 0) old → cond (a && b) (Some 0) m ≡ cond (a && is_some (cond b (Some w.change) (change_of q.name ws))) (Some 0) old
@@ -166,7 +166,7 @@ installed-more stamp w ws q old m n e f = e ∙ ap (λ b. cond b (Some 0) m) (ke
     by false b f = f
 
 -- taken out again, nothing is left where nothing was before
-pub undone : (stamp : ℕ) (ws : List Write) (q : VersionKey) (old m : Option ℕ) → (q.wrote ≡ stamp → old ≡ None) → m ≡ installed stamp ws q old → removed stamp ws q m ≡ old
+pub undone : (stamp : ℕ) (ws : List Write) (q : VersionKey) (old m : Option ℕ) → (q.wrote ≡ stamp → old ≡ None) → m ≡ mark_after_install stamp ws q old → removed stamp ws q m ≡ old
 undone stamp ws q old m none e = by (eqb q.wrote stamp) (writes_row q.name ws) refl e
   where
     by : (a b : Bool) → eqb q.wrote stamp ≡ a → m ≡ cond (a && b) (Some 0) old → cond (a && b) None m ≡ old

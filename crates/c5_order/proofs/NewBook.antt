@@ -16,7 +16,7 @@ use Rattle.c5_order.specs.declared.book.TxnState.{TxnState}
 use Rattle.c5_order.specs.declared.book.BodyState.{BodyState}
 use Rattle.c5_order.specs.declared.book.BodyState.TheVariants.{Free}
 use Rattle.c5_order.specs.declared.book.Book.{Book}
-use Rattle.c5_order.specs.Marks.{version_key_cmp, version_key, mark_at}
+use Rattle.c5_order.specs.Marks.{version_key_cmp, version_key, noted_mark}
 use Rattle.c5_order.specs.Book.{HoldsTxn, is_open, HoldsState, HoldsMarks, HoldsBook, base_of}
 use Rattle.c5_order.proofs.Parts.{Parts}
 

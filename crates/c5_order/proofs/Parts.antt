@@ -17,7 +17,8 @@ use Rattle.c5_definitions.specs.declared.history.Entry.{Entry}
 use Rattle.c5_definitions.specs.declared.history.Event.{Event}
 use Rattle.c5_definitions.specs.declared.history.Event.TheVariants.{Begin, Read, Commit as Commits, Cancel}
 use Rattle.c5_definitions.specs.declared.history.OrderBase.{OrderBase}
-use Rattle.c5_definitions.specs.History.{Begun, VersionRead, begun, commits, ended, is_among, last_begun, last_stamp, reads, version_at, open_txns}
+use Rattle.c5_definitions.specs.History.{Begun, VersionRead, begun, commits, ended, last_begun, last_stamp, reads, version_at, open_txns}
+use Rattle.c5_rows.specs.Numbers.{is_among}
 use Rattle.c5_definitions.specs.OrderLog.{conflicts, committed, committed_stamp, open_stamp, IsOpen, IsOutcome, BeginsNext, Allows, IsOrderHistory}
 use Rattle.c5_order.specs.declared.marks.VersionKey.{VersionKey}
 use Rattle.c5_order.specs.declared.book.TxnState.{TxnState}
@@ -26,7 +27,7 @@ use Rattle.c5_order.specs.declared.book.BodyState.TheVariants.{Free, Open, Commi
 use Rattle.c5_order.specs.declared.book.Book.{Book}
 use Rattle.c5_order.specs.declared.answers.BeginFault.TheVariants as faults
 use Rattle.c5_order.specs.Answers.{begin_answer}
-use Rattle.c5_order.specs.Marks.{version_key, mark_at, marked, installed}
+use Rattle.c5_order.specs.Marks.{version_key, noted_mark, marked, mark_after_install}
 use Rattle.c5_order.specs.Book.{writes_of_stamp, HoldsPlace, HoldsTxn, is_open, IsLiveTxn, HoldsState, HoldsMarks, HoldsBook, base_of}
 use Rattle.c5_order.proofs.Versions.{Commit, contains-head, contains-tail, lookup-push, lookup-other}
 use Rattle.c5_order.proofs.Histories.{entry, begun-push, commits-push, ended-push, reads-push, history-push, CountsOn, counts-at, counts-within, counts-unique, within-default, last_begun-push, open-begun, begun-open, uncommitted, IsLive, Sound}
@@ -138,8 +139,8 @@ cancel-book base last h new ts o p sts m b t stamp parts is_open_b is noted item
 -- ---- a read
 
 pub read-parts : (base : OrderBase) (last : ℕ) (h : List Entry) (ts : List TxnState) (o : ℕ → Bool) (sts : List BodyState) (m n : BTreeMap VersionKey ℕ) (b : Begun) (name : RowName)
-    → Parts base last h ts o sts m → IsOpen h b → (1 ≤ version_at h name b.stamp → IsSome (mark_at m (version_key name (version_at h name b.stamp))))
-    → ((q : VersionKey) → mark_at n q ≡ marked (version_key name (version_at h name b.stamp)) b.stamp q (mark_at m q)) → Parts base last (h ++ entry b.caller b.stamp (Read name) ∷ []) ts o sts n
+    → Parts base last h ts o sts m → IsOpen h b → (1 ≤ version_at h name b.stamp → IsSome (noted_mark m (version_key name (version_at h name b.stamp))))
+    → ((q : VersionKey) → noted_mark n q ≡ marked (version_key name (version_at h name b.stamp)) b.stamp q (noted_mark m q)) → Parts base last (h ++ entry b.caller b.stamp (Read name) ∷ []) ts o sts n
 read-parts base last h ts o sts m n b name parts is_open_b has is_n = record {
   allowed = history-push base h b.caller b.stamp (Read name) parts.allowed (b.script, is_open_b);
   last_is = parts.last_is ∙ sym (last-same base.last h g bs);
@@ -250,7 +251,7 @@ zip-set h g s last (b ∷ bs) (t ∷ ts) (suc k) v counts at other here z =
 
 pub commit-parts : (base : OrderBase) (last : ℕ) (h : List Entry) (ts : List TxnState) (o p : ℕ → Bool) (sts : List BodyState) (m n : BTreeMap VersionKey ℕ) (b : Begun) (k : ℕ) (writes : List Write)
     → Parts base last h ts o sts m → IsOpen h b → k + 1 + base.last ≡ b.stamp → IsOutcome base h b writes → IsAscending writes → conflicts h b.stamp writes ≡ []
-    → ((q : ℕ) → p q ≡ cond (is_at (nat_cmp b.stamp) q) false (o q)) → ((q : VersionKey) → mark_at n q ≡ installed b.stamp writes q (mark_at m q))
+    → ((q : ℕ) → p q ≡ cond (is_at (nat_cmp b.stamp) q) false (o q)) → ((q : VersionKey) → noted_mark n q ≡ mark_after_install b.stamp writes q (noted_mark m q))
     → Parts base last (h ++ entry b.caller b.stamp (Commits writes) ∷ []) (set ts k (record { caller = b.caller; script = b.script; place = Some (length h) })) p (set sts b.script (Committed b.stamp)) n
 commit-parts base last h ts o p sts m n b k writes parts is_open_b at outcome ascending none is_p is_n = record {
   allowed = history-push base h b.caller b.stamp (Commits writes) parts.allowed (b.script, is_open_b, outcome, ascending, none);
@@ -313,24 +314,24 @@ begin-book base last h new ts us o p sts m caller script parts known free fits i
     (begin-parts base last h ts o p sts m caller (last + 1) script parts known free refl fits is_p))
 
 pub read-book : (base : OrderBase) (last : ℕ) (h new : List Entry) (ts : List TxnState) (o : ℕ → Bool) (sts : List BodyState) (m n : BTreeMap VersionKey ℕ) (b : Begun) (t : TxnState) (stamp version : ℕ) (name : RowName)
-    → Parts base last h ts o sts m → IsOpen h b → b.stamp ≡ stamp → HoldsTxn h b t → version ≡ version_at h name stamp → (1 ≤ version → IsSome (mark_at m (version_key name version)))
-    → ((q : VersionKey) → mark_at n q ≡ marked (version_key name version) stamp q (mark_at m q)) → new ≡ h ++ entry t.caller stamp (Read name) ∷ [] → Parts base last new ts o sts n
+    → Parts base last h ts o sts m → IsOpen h b → b.stamp ≡ stamp → HoldsTxn h b t → version ≡ version_at h name stamp → (1 ≤ version → IsSome (noted_mark m (version_key name version)))
+    → ((q : VersionKey) → noted_mark n q ≡ marked (version_key name version) stamp q (noted_mark m q)) → new ≡ h ++ entry t.caller stamp (Read name) ∷ [] → Parts base last new ts o sts n
 read-book base last h new ts o sts m n b t stamp version name parts is_open_b is noted seen has is_n items =
     let e : new ≡ h ++ entry b.caller b.stamp (Read name) ∷ [] = items ∙ ap (λ c. h ++ entry c stamp (Read name) ∷ []) noted.caller ∙ ap (λ s. h ++ entry b.caller s (Read name) ∷ []) (sym is) in
     let v : version ≡ version_at h name b.stamp = seen ∙ ap (version_at h name) (sym is) in
     subst (λ x. Parts base last x ts o sts n) (sym e)
-    (read-parts base last h ts o sts m n b name parts is_open_b (subst (λ w. 1 ≤ w → IsSome (mark_at m (version_key name w))) v has)
-    (λ q. is_n q ∙ ap (λ w. marked (version_key name w) stamp q (mark_at m q)) v ∙ ap (λ s. marked (version_key name (version_at h name b.stamp)) s q (mark_at m q)) (sym is)))
+    (read-parts base last h ts o sts m n b name parts is_open_b (subst (λ w. 1 ≤ w → IsSome (noted_mark m (version_key name w))) v has)
+    (λ q. is_n q ∙ ap (λ w. marked (version_key name w) stamp q (noted_mark m q)) v ∙ ap (λ s. marked (version_key name (version_at h name b.stamp)) s q (noted_mark m q)) (sym is)))
 
 pub commit-book : (base : OrderBase) (last : ℕ) (h new : List Entry) (ts : List TxnState) (o p : ℕ → Bool) (sts : List BodyState) (m n : BTreeMap VersionKey ℕ) (b : Begun) (t : TxnState) (stamp k : ℕ) (writes copy : List Write)
     → Parts base last h ts o sts m → IsOpen h b → b.stamp ≡ stamp → HoldsTxn h b t → k + 1 + base.last ≡ stamp → IsOutcome base h b writes → IsAscending writes → conflicts h stamp writes ≡ [] → copy ≡ writes
-    → ((q : ℕ) → p q ≡ cond (is_at (nat_cmp stamp) q) false (o q)) → ((q : VersionKey) → mark_at n q ≡ installed stamp writes q (mark_at m q)) → new ≡ h ++ entry t.caller stamp (Commits copy) ∷ []
+    → ((q : ℕ) → p q ≡ cond (is_at (nat_cmp stamp) q) false (o q)) → ((q : VersionKey) → noted_mark n q ≡ mark_after_install stamp writes q (noted_mark m q)) → new ≡ h ++ entry t.caller stamp (Commits copy) ∷ []
     → Parts base last new (set ts k (record { caller = t.caller; script = t.script; place = Some (length h) })) p (set sts t.script (Committed stamp)) n
 commit-book base last h new ts o p sts m n b t stamp k writes copy parts is_open_b is noted at outcome ascending none same is_p is_n items =
     let e : new ≡ h ++ entry b.caller b.stamp (Commits writes) ∷ [] = items ∙ ap (λ c. h ++ entry c stamp (Commits copy) ∷ []) noted.caller ∙ ap (λ s. h ++ entry b.caller s (Commits copy) ∷ []) (sym is) ∙ ap (λ w. h ++ entry b.caller b.stamp (Commits w) ∷ []) same in
     let parts_b : Parts base last (h ++ entry b.caller b.stamp (Commits writes) ∷ []) (set ts k (record { caller = b.caller; script = b.script; place = Some (length h) })) p (set sts b.script (Committed b.stamp)) n =
     commit-parts base last h ts o p sts m n b k writes parts is_open_b (at ∙ sym is) outcome ascending (ap (λ s. conflicts h s writes) is ∙ none)
-    (λ q. is_p q ∙ ap (λ s. cond (is_at (nat_cmp s) q) false (o q)) (sym is)) (λ q. is_n q ∙ ap (λ s. installed s writes q (mark_at m q)) (sym is)) in
+    (λ q. is_p q ∙ ap (λ s. cond (is_at (nat_cmp s) q) false (o q)) (sym is)) (λ q. is_n q ∙ ap (λ s. mark_after_install s writes q (noted_mark m q)) (sym is)) in
     subst (λ x. Parts base last x (set ts k (record { caller = t.caller; script = t.script; place = Some (length h) })) p (set sts t.script (Committed stamp)) n) (sym e)
     (subst (λ s. Parts base last (h ++ entry b.caller b.stamp (Commits writes) ∷ []) (set ts k (record { caller = t.caller; script = t.script; place = Some (length h) })) p (set sts t.script (Committed s)) n) is
     (subst (λ c. Parts base last (h ++ entry b.caller b.stamp (Commits writes) ∷ []) (set ts k (record { caller = c; script = t.script; place = Some (length h) })) p (set sts t.script (Committed b.stamp)) n) (sym noted.caller)

@@ -16,7 +16,7 @@ use Rattle.c5_definitions.specs.declared.history.OrderBase.{OrderBase}
 use Rattle.c5_definitions.specs.History.{Begun, VersionRead, begun, commits, ended, reads, version_in, version_at, writes_row}
 use Rattle.c5_order.specs.declared.marks.VersionKey.{VersionKey}
 use Rattle.c5_order.specs.declared.marks.Found.{Found}
-use Rattle.c5_order.specs.Marks.{version_key_cmp, version_key, mark_at, IsFoundBefore, marked, installed}
+use Rattle.c5_order.specs.Marks.{version_key_cmp, version_key, noted_mark, IsMarkFoundBefore, marked, mark_after_install}
 use Rattle.c5_order.specs.Book.{writes_of_stamp, wrote_row, greatest_reader, HoldsMarks}
 use Rattle.c5_order.proofs.Versions.{Commit, contains-head, contains-tail, seen, version_in-is, Attains, lookup-contains, lookup-more, lookup-push}
 use Rattle.c5_order.proofs.Histories.{counts-within, Sound}
@@ -100,20 +100,20 @@ marks-same h g m cs rs holds = record {
   readers = λ name s. holds.readers name s ∙ ap (greatest_reader name s) (sym rs);
 }
 
-pub marks-lookups : (h : List Entry) (m n : BTreeMap VersionKey ℕ) → ((q : VersionKey) → mark_at n q ≡ mark_at m q) → HoldsMarks h m → HoldsMarks h n
+pub marks-lookups : (h : List Entry) (m n : BTreeMap VersionKey ℕ) → ((q : VersionKey) → noted_mark n q ≡ noted_mark m q) → HoldsMarks h m → HoldsMarks h n
 marks-lookups h m n same holds = record {
   written = λ name s some. ap is_some (same (version_key name s)) ∙ holds.written name s some;
   readers = λ name s. ap (λ o. unwrap_or o 0) (same (version_key name s)) ∙ holds.readers name s;
 }
 
-pub marks-read : (h g : List Entry) (m n : BTreeMap VersionKey ℕ) (r : VersionRead) → commits g ≡ commits h → reads g ≡ reads h ++ r ∷ [] → (1 ≤ r.version → IsSome (mark_at m (version_key r.name r.version)))
-    → ((q : VersionKey) → mark_at n q ≡ marked (version_key r.name r.version) r.reader q (mark_at m q)) → HoldsMarks h m → HoldsMarks g n
+pub marks-read : (h g : List Entry) (m n : BTreeMap VersionKey ℕ) (r : VersionRead) → commits g ≡ commits h → reads g ≡ reads h ++ r ∷ [] → (1 ≤ r.version → IsSome (noted_mark m (version_key r.name r.version)))
+    → ((q : VersionKey) → noted_mark n q ≡ marked (version_key r.name r.version) r.reader q (noted_mark m q)) → HoldsMarks h m → HoldsMarks g n
 marks-read h g m n r cs rs there is holds = record {
   written = λ name s some. ap is_some (is (version_key name s)) ∙ kept name s some (is_at (version_key_cmp (version_key r.name r.version)) (version_key name s)) refl ∙ holds.written name s some ∙ ap (λ c. wrote_row name (lookup (λ n. eqb n s) c)) (sym cs);
   readers = λ name s.
       ap (λ o. unwrap_or o 0) (is (version_key name s))
-      ∙ ap (λ t. unwrap_or (cond t (Some (max (unwrap_or (mark_at m (version_key name s)) 0) r.reader)) (mark_at m (version_key name s))) 0) (key-test r.name r.version (version_key name s) ∙ same-test name r.name s r.version)
-      ∙ by (is_of name s r) (mark_at m (version_key name s)) (greatest_reader name s (reads h)) (holds.readers name s)
+      ∙ ap (λ t. unwrap_or (cond t (Some (max (unwrap_or (noted_mark m (version_key name s)) 0) r.reader)) (noted_mark m (version_key name s))) 0) (key-test r.name r.version (version_key name s) ∙ same-test name r.name s r.version)
+      ∙ by (is_of name s r) (noted_mark m (version_key name s)) (greatest_reader name s (reads h)) (holds.readers name s)
       ∙ sym (reader-push name s (reads h) r)
       ∙ ap (greatest_reader name s) (sym rs);
 } where
@@ -124,19 +124,19 @@ marks-read h g m n r cs rs there is holds = record {
       max_turned = omega arith
   by false o g e = e
 
-  kept : (name : RowName) (s : ℕ) → 1 ≤ s → (t : Bool) → is_at (version_key_cmp (version_key r.name r.version)) (version_key name s) ≡ t → is_some (cond t (Some (max (unwrap_or (mark_at m (version_key name s)) 0) r.reader)) (mark_at m (version_key name s))) ≡ is_some (mark_at m (version_key name s))
+  kept : (name : RowName) (s : ℕ) → 1 ≤ s → (t : Bool) → is_at (version_key_cmp (version_key r.name r.version)) (version_key name s) ≡ t → is_some (cond t (Some (max (unwrap_or (noted_mark m (version_key name s)) 0) r.reader)) (noted_mark m (version_key name s))) ≡ is_some (noted_mark m (version_key name s))
   kept name s some true e =
       let p = and_parts (eqb s r.version) (is_eq (row_name_cmp name r.name)) (sym (key-test r.name r.version (version_key name s)) ∙ e) in
       let v : s ≡ r.version = eqb-true s r.version p.0 in
-      sym (subst (λ n. is_some (mark_at m (version_key n s)) ≡ true) (sym (equal_names name r.name p.1)) (subst (λ w. is_some (mark_at m (version_key r.name w)) ≡ true) (sym v) (some_is (mark_at m (version_key r.name r.version)) (there (omega arith)))))
+      sym (subst (λ n. is_some (noted_mark m (version_key n s)) ≡ true) (sym (equal_names name r.name p.1)) (subst (λ w. is_some (noted_mark m (version_key r.name w)) ≡ true) (sym v) (some_is (noted_mark m (version_key r.name r.version)) (there (omega arith)))))
   kept name s some false e = refl
 
 -- a stamp without a commit has no versions
-pub none-written : (h : List Entry) (m : BTreeMap VersionKey ℕ) (s : ℕ) (name : RowName) → 1 ≤ s → lookup (λ n. eqb n s) (commits h) ≡ None → HoldsMarks h m → mark_at m (version_key name s) ≡ None
-none-written h m s name some none holds = not_some (mark_at m (version_key name s)) (holds.written name s some ∙ ap (wrote_row name) none)
+pub none-written : (h : List Entry) (m : BTreeMap VersionKey ℕ) (s : ℕ) (name : RowName) → 1 ≤ s → lookup (λ n. eqb n s) (commits h) ≡ None → HoldsMarks h m → noted_mark m (version_key name s) ≡ None
+none-written h m s name some none holds = not_some (noted_mark m (version_key name s)) (holds.written name s some ∙ ap (wrote_row name) none)
 
 pub marks-commit : (h g : List Entry) (m n : BTreeMap VersionKey ℕ) (s : ℕ) (writes : List Write) → commits g ≡ commits h ++ (s, writes) ∷ [] → reads g ≡ reads h → 1 ≤ s → lookup (λ n. eqb n s) (commits h) ≡ None
-    → ((q : VersionKey) → mark_at n q ≡ installed s writes q (mark_at m q)) → HoldsMarks h m → HoldsMarks g n
+    → ((q : VersionKey) → noted_mark n q ≡ mark_after_install s writes q (noted_mark m q)) → HoldsMarks h m → HoldsMarks g n
 marks-commit h g m n s writes cs rs some none is holds = record {
   written = λ name v above. ap is_some (is (version_key name v)) ∙ wrote name v above (cases_eq v s) ∙ ap (λ c. wrote_row name (lookup (λ n. eqb n v) c)) (sym cs);
   readers = λ name v. ap (λ o. unwrap_or o 0) (is (version_key name v)) ∙ unread name v (eqb v s) refl (writes_row name writes) ∙ holds.readers name v ∙ ap (greatest_reader name v) (sym rs);
@@ -145,14 +145,14 @@ marks-commit h g m n s writes cs rs some none is holds = record {
   chosen true o e = refl
   chosen false o e = ap is_some e
 
-  wrote : (name : RowName) (v : ℕ) → 1 ≤ v → (v ≡ s) ⊎ (v ≡ s → ⊥) → is_some (cond (eqb v s && writes_row name writes) (Some 0) (mark_at m (version_key name v))) ≡ wrote_row name (lookup (λ n. eqb n v) (commits h ++ (s, writes) ∷ []))
+  wrote : (name : RowName) (v : ℕ) → 1 ≤ v → (v ≡ s) ⊎ (v ≡ s → ⊥) → is_some (cond (eqb v s && writes_row name writes) (Some 0) (noted_mark m (version_key name v))) ≡ wrote_row name (lookup (λ n. eqb n v) (commits h ++ (s, writes) ∷ []))
   wrote name v above (inl same) =
       let found : lookup (λ n. eqb n v) (commits h ++ (s, writes) ∷ []) ≡ Some writes = lookup-push v (commits h) (s, writes) (subst (λ k. lookup (λ n. eqb n k) (commits h) ≡ None) (sym same) none) ∙ ap (λ t. cond t (Some writes) None) (eq-eqb s v (sym same)) in
-      ap (λ t. is_some (cond (t && writes_row name writes) (Some 0) (mark_at m (version_key name v)))) (eq-eqb v s same)
-      ∙ chosen (writes_row name writes) (mark_at m (version_key name v)) (subst (λ k. mark_at m (version_key name k) ≡ None) (sym same) (none-written h m s name some none holds))
+      ap (λ t. is_some (cond (t && writes_row name writes) (Some 0) (noted_mark m (version_key name v)))) (eq-eqb v s same)
+      ∙ chosen (writes_row name writes) (noted_mark m (version_key name v)) (subst (λ k. noted_mark m (version_key name k) ≡ None) (sym same) (none-written h m s name some none holds))
       ∙ ap (wrote_row name) (sym found)
   wrote name v above (inr other) =
-      ap (λ t. is_some (cond (t && writes_row name writes) (Some 0) (mark_at m (version_key name v)))) (ne_eqb v s other)
+      ap (λ t. is_some (cond (t && writes_row name writes) (Some 0) (noted_mark m (version_key name v)))) (ne_eqb v s other)
       ∙ holds.written name v above ∙ ap (wrote_row name) (sym (lookup-other v other))
     where
       lookup-other : (v : ℕ) → (v ≡ s → ⊥) → lookup (λ n. eqb n v) (commits h ++ (s, writes) ∷ []) ≡ lookup (λ n. eqb n v) (commits h)
@@ -162,8 +162,8 @@ marks-commit h g m n s writes cs rs some none is holds = record {
           by None e = lookup-push v (commits h) (s, writes) e ∙ ap (λ t. cond t (Some writes) None) (ne_eqb s v (λ same. other (sym same)))
           by (Some w) e = lookup-more v (commits h) ((s, writes) ∷ []) w e
 
-  unread : (name : RowName) (v : ℕ) (t : Bool) → eqb v s ≡ t → (u : Bool) → unwrap_or (cond (t && u) (Some 0) (mark_at m (version_key name v))) 0 ≡ unwrap_or (mark_at m (version_key name v)) 0
-  unread name v true e true = ap (λ o. unwrap_or o 0) (sym (subst (λ k. mark_at m (version_key name k) ≡ None) (sym (eqb-true v s e)) (none-written h m s name some none holds)))
+  unread : (name : RowName) (v : ℕ) (t : Bool) → eqb v s ≡ t → (u : Bool) → unwrap_or (cond (t && u) (Some 0) (noted_mark m (version_key name v))) 0 ≡ unwrap_or (noted_mark m (version_key name v)) 0
+  unread name v true e true = ap (λ o. unwrap_or o 0) (sym (subst (λ k. noted_mark m (version_key name k) ≡ None) (sym (eqb-true v s e)) (none-written h m s name some none holds)))
   unread name v true e false = refl
   unread name v false e u = refl
 
@@ -173,7 +173,7 @@ found-some : (name : RowName) (o : Option (List Write)) → wrote_row name o ≡
 found-some name None e = absurd (true≢false (sym e))
 found-some name (Some w) e = (w, refl, e)
 
-pub found-version : (base : OrderBase) (h : List Entry) (m : BTreeMap VersionKey ℕ) (name : RowName) (s : ℕ) (found : Found) → Sound base (begun h) (commits h) (ended h) (reads h) → HoldsMarks h m → IsFoundBefore m name s found → found.wrote ≡ version_at h name s
+pub found-version : (base : OrderBase) (h : List Entry) (m : BTreeMap VersionKey ℕ) (name : RowName) (s : ℕ) (found : Found) → Sound base (begun h) (commits h) (ended h) (reads h) → HoldsMarks h m → IsMarkFoundBefore m name s found → found.wrote ≡ version_at h name s
 found-version base h m name s found sound holds is = sym (version_at-is h name s ∙ version_in-is name s (commits h) found.wrote from most)
   where
     from : (found.wrote ≡ 0) ⊎ Attains name s (commits h) found.wrote
@@ -196,10 +196,10 @@ found-version base h m name s found sound holds is = sym (version_at-is h name s
         let b = All-contains (λ c. (b : Begun) × Contains (begun h) b × (b.stamp ≡ c.0)) (commits h) c sound.from_begun there in
         let above = counts-within base.last (begun h) b.0 sound.counted b.1 in
         let once = All-contains (λ c. lookup (λ n. eqb n c.0) (commits h) ≡ Some c.1) (commits h) c sound.once there in
-        is.greatest c.0 (ltb-true c.0 s p.0) (is_a_some (mark_at m (version_key name c.0)) (holds.written name c.0 (omega (arith, b.2, above.0)) ∙ ap (wrote_row name) once ∙ p.1))
+        is.greatest c.0 (ltb-true c.0 s p.0) (is_a_some (noted_mark m (version_key name c.0)) (holds.written name c.0 (omega (arith, b.2, above.0)) ∙ ap (wrote_row name) once ∙ p.1))
 
-pub found-reader : (h : List Entry) (m : BTreeMap VersionKey ℕ) (name : RowName) (s : ℕ) (found : Found) → HoldsMarks h m → IsFoundBefore m name s found → found.read_by ≡ greatest_reader name found.wrote (reads h)
+pub found-reader : (h : List Entry) (m : BTreeMap VersionKey ℕ) (name : RowName) (s : ℕ) (found : Found) → HoldsMarks h m → IsMarkFoundBefore m name s found → found.read_by ≡ greatest_reader name found.wrote (reads h)
 found-reader h m name s found holds is = elim (cases_eq found.wrote 0) [
-  | inl z ↦ is.entry z ∙ ap (λ v. unwrap_or (mark_at m (version_key name v)) 0) (sym z) ∙ holds.readers name found.wrote
+  | inl z ↦ is.entry z ∙ ap (λ v. unwrap_or (noted_mark m (version_key name v)) 0) (sym z) ∙ holds.readers name found.wrote
   | inr other ↦ sym (ap (λ o. unwrap_or o 0) (is.there (omega arith)).1) ∙ holds.readers name found.wrote
 ]

@@ -14,14 +14,14 @@ use Rattle.c5_rows.specs.State.{State}
 use Rattle.c5_rows.specs.Writes.{change_of}
 use Rattle.c5_definitions.specs.declared.history.Entry.{Entry}
 use Rattle.c5_definitions.specs.declared.history.Event.TheVariants.{Commit as Commits}
-use Rattle.c5_definitions.specs.History.{Begun, begun, commits, ended, reads, row_left, left_by, row_of_version, value_at, version_at, version_in}
+use Rattle.c5_definitions.specs.History.{Begun, begun, commits, ended, reads, row_left, left_by, row_of_version, row_seen, version_at, version_in}
 use Rattle.c5_definitions.specs.OrderLog.{IsOpen}
 use Rattle.c5_order.specs.declared.marks.VersionKey.{VersionKey}
 use Rattle.c5_order.specs.declared.marks.Found.{Found}
 use Rattle.c5_order.specs.declared.book.TxnState.{TxnState}
 use Rattle.c5_order.specs.declared.book.Book.{Book}
-use Rattle.c5_order.specs.Marks.{version_key, mark_at, IsFoundBefore}
-use Rattle.c5_order.specs.Book.{writes_of_stamp, HoldsPlace, HoldsTxn, HoldsBook, base_of, left_at, row_of_change}
+use Rattle.c5_order.specs.Marks.{version_key, noted_mark, IsMarkFoundBefore}
+use Rattle.c5_order.specs.Book.{writes_of_stamp, HoldsPlace, HoldsTxn, HoldsBook, base_of, left_at, row_after}
 use Rattle.c5_order.proofs.Versions.{version_in-attained}
 use Rattle.c5_order.proofs.Histories.{entry, counts-within, open-begun}
 use Rattle.c5_order.proofs.Allowed.{version_at-is}
@@ -61,7 +61,7 @@ pub row-at : (start : State) (h : List Entry) (name : RowName) (v place : ℕ) �
 row-at start h name v place above holds =
     ap (λ e. left_at e name) holds.2 ∙ same (change_of name holds.1) ∙ ap (λ o. left_by o name) (sym holds.3) ∙ sym (row-commit start h name v above)
   where
-    same : (o : Option Change) → row_of_change o ≡ elim o [ None ↦ None | Some change ↦ row_left change ]
+    same : (o : Option Change) → row_after o ≡ elim o [ None ↦ None | Some change ↦ row_left change ]
     same None = refl
     same (Some change) = refl
 
@@ -69,7 +69,7 @@ pub row-nowhere : (start : State) (h : List Entry) (name : RowName) (v : ℕ) �
 row-nowhere start h name v above holds = ap (λ o. left_by o name) (sym holds) ∙ sym (row-commit start h name v above)
 
 -- the version that a stamp sees is that of a transaction
-pub seen-version : (book : Book) (name : RowName) (s : ℕ) (found : Found) → HoldsBook book → IsFoundBefore book.versions name s found → IsVersionOf book.history.items found.wrote
+pub seen-version : (book : Book) (name : RowName) (s : ℕ) (found : Found) → HoldsBook book → IsMarkFoundBefore book.versions name s found → IsVersionOf book.history.items found.wrote
 seen-version book name s found holds is =
     let h = book.history.items in
     let v : found.wrote ≡ version_in name s (commits h) = found-version (base_of book) h book.versions name s found (sound-of book holds) holds.marks is ∙ version_at-is h name s in
@@ -81,15 +81,15 @@ seen-version book name s found holds is =
     ]
 
 -- the row of the version that a stamp sees
-pub seen-row : (book : Book) (name : RowName) (s : ℕ) (found : Found) → HoldsBook book → IsFoundBefore book.versions name s found → row_of_version book.start book.history.items name found.wrote ≡ value_at book.start book.history.items name s
-unfolding value_at
+pub seen-row : (book : Book) (name : RowName) (s : ℕ) (found : Found) → HoldsBook book → IsMarkFoundBefore book.versions name s found → row_of_version book.start book.history.items name found.wrote ≡ row_seen book.start book.history.items name s
+unfolding row_seen
 seen-row book name s found holds is = ap (row_of_version book.start book.history.items name) (found-version (base_of book) book.history.items book.versions name s found (sound-of book holds) holds.marks is)
 
 pub stamp-above : (book : Book) (b : Begun) (stamp : ℕ) → HoldsBook book → IsOpen book.history.items b → b.stamp ≡ stamp → 1 ≤ stamp
 stamp-above book b stamp holds is_open is = omega (arith, is, (counts-within book.first (begun book.history.items) b (sound-of book holds).counted (open-begun book.history.items b is_open).0).0)
 
-pub found-there : (m : BTreeMap VersionKey ℕ) (name : RowName) (s : ℕ) (found : Found) → IsFoundBefore m name s found → 1 ≤ found.wrote → IsSome (mark_at m (version_key name found.wrote))
-found-there m name s found is some = by (mark_at m (version_key name found.wrote)) (is.there some).1
+pub found-there : (m : BTreeMap VersionKey ℕ) (name : RowName) (s : ℕ) (found : Found) → IsMarkFoundBefore m name s found → 1 ≤ found.wrote → IsSome (noted_mark m (version_key name found.wrote))
+found-there m name s found is some = by (noted_mark m (version_key name found.wrote)) (is.there some).1
   where
     by : (o : Option ℕ) → o ≡ Some found.read_by → IsSome o
     by None e = absurd cc

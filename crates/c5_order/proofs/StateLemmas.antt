@@ -8,7 +8,8 @@ use Rattle.std.proofs.lemmas.List.Elements.{All-contains, Contains-append_left, 
 use Rattle.c5_rows.specs.declared.writes.Write.{Write}
 use Rattle.c5_definitions.specs.declared.history.Entry.{Entry}
 use Rattle.c5_definitions.specs.declared.history.OrderBase.{OrderBase}
-use Rattle.c5_definitions.specs.History.{Begun, VersionRead, begun, commits, ended, is_among, reads}
+use Rattle.c5_definitions.specs.History.{Begun, VersionRead, begun, commits, ended, reads}
+use Rattle.c5_rows.specs.Numbers.{is_among}
 use Rattle.c5_definitions.specs.OrderLog.{IsOpen}
 use Rattle.c5_order.specs.declared.book.BodyState.{BodyState}
 use Rattle.c5_order.specs.declared.book.BodyState.TheVariants.{Free, Open, Committed}

@@ -1,6 +1,7 @@
 //! The begin of a transaction.
 
-ghost use Rattle.std.specs.Prelude.{◌≡◌, ◌<◌, ◌+◌, ◌^◌, ◌++◌, ◌∷◌, ◌⊎◌, [], length, Err, IfOk, OnErr};
+ghost use Rattle.std.specs.Prelude.{◌≡◌, ◌<◌, ◌+◌, ◌^◌, ◌++◌, ◌∷◌, ◌⊎◌, [], length, Err, IfOk};
+ghost use Rattle.std.specs.Prelude.{OnErr};
 ghost use Rattle.c5_definitions.specs.declared.history.Event.TheVariants as events;
 ghost use Rattle.c5_definitions.specs.History.{last_stamp};
 ghost use Rattle.c5_order.specs.declared.answers.BeginFault.TheVariants as faults;
@@ -22,7 +23,9 @@ fn start(book: &mut Book, caller: u64, script: u32) -> Result<u64, NoMemory>
     ensures holds { HoldsBook book.new }
     ensures base { base_of book.new ≡ base_of book.old }
     ensures stamp { IfOk result (λ stamp. stamp ≡ book.old.last + 1) }
-    ensures entry { IfOk result (λ stamp. book.new.history.items ≡ book.old.history.items ++ record { caller = caller; stamp = stamp; event = events.Begin script } ∷ []) }
+    ensures entry { IfOk result
+        (λ stamp. book.new.history.items ≡ book.old.history.items
+        ++ record { caller = caller; stamp = stamp; event = events.Begin script } ∷ []) }
     ensures err { OnErr result (book.new.history.items ≡ book.old.history.items) }
 {
     let stamp = book.last + 1;
@@ -51,8 +54,11 @@ pub fn begin(book: &mut Book, caller: u64, script: u32) -> Result<u64, BeginFaul
     requires known { script < length book.old.bodies.now }
     ensures holds { HoldsBook book.new }
     ensures base { base_of book.new ≡ base_of book.old }
-    ensures answer { (result ≡ begin_answer book.old.first book.old.history.items script) ⊎ (result ≡ Err faults.NoMemory) }
-    ensures entry { IfOk result (λ stamp. book.new.history.items ≡ book.old.history.items ++ record { caller = caller; stamp = stamp; event = events.Begin script } ∷ []) }
+    ensures answer { (result ≡ begin_answer book.old.first book.old.history.items script)
+        ⊎ (result ≡ Err faults.NoMemory) }
+    ensures entry { IfOk result
+        (λ stamp. book.new.history.items ≡ book.old.history.items
+        ++ record { caller = caller; stamp = stamp; event = events.Begin script } ∷ []) }
     ensures err { OnErr result (book.new.history.items ≡ book.old.history.items) }
 {
     match book.states[script as usize] {

@@ -43,7 +43,7 @@ pub struct Book<'s> {
     pub open_stamps: BTreeSet<u64>,
     /// By the numbers of the bodies.
     pub states: Vec<BodyState>,
-    /// The greatest reader of each version; 0 if none has read it. The start version of a row has an entry once
-    /// it is read.
+    /// The greatest reader of each version; 0 if none has read it. The start version of a row has
+    /// an entry once it is read.
     pub versions: BTreeMap<VersionKey, u64>,
 }

@@ -31,11 +31,15 @@ pub fn copied(alloc: Global, writes: &Writes) -> Result<Writes, NoMemory>
 // Commits an open transaction of which no later stamp has read a row.
 fn install_all(book: &mut Book, stamp: u64, writes: &Writes) -> Result<(), NoMemory>
     requires holds { HoldsBook book.old }
-    requires outcome { (b : Begun) × IsOpen book.old.history.items b × (b.stamp ≡ stamp) × IsOutcome (base_of book.old) book.old.history.items b writes.now }
+    requires outcome { (b : Begun) × IsOpen book.old.history.items b × (b.stamp ≡ stamp)
+        × IsOutcome (base_of book.old) book.old.history.items b writes.now }
     requires free { conflicts book.old.history.items stamp writes.now ≡ [] }
     ensures holds { HoldsBook book.new }
     ensures base { base_of book.new ≡ base_of book.old }
-    ensures entry { OnOk result ((b : Begun) → IsOpen book.old.history.items b → b.stamp ≡ stamp → book.new.history.items ≡ book.old.history.items ++ record { caller = b.caller; stamp = stamp; event = events.Commit writes.now } ∷ []) }
+    ensures entry { OnOk result
+        ((b : Begun) → IsOpen book.old.history.items b → b.stamp ≡ stamp
+        → book.new.history.items ≡ book.old.history.items
+        ++ record { caller = b.caller; stamp = stamp; event = events.Commit writes.now } ∷ []) }
     ensures err { OnErr result (book.new.history.items ≡ book.old.history.items) }
 {
     let copy = copied(book.alloc, writes)?;
@@ -71,11 +75,14 @@ fn conflict(later: LaterReader) -> Decision
 /// Commits an open transaction, unless a later stamp has read a row that it writes.
 pub fn commit(book: &mut Book, stamp: u64, writes: &Writes) -> Result<Decision, NoMemory>
     requires holds { HoldsBook book.old }
-    requires outcome { (b : Begun) × IsOpen book.old.history.items b × (b.stamp ≡ stamp) × IsOutcome (base_of book.old) book.old.history.items b writes.now }
+    requires outcome { (b : Begun) × IsOpen book.old.history.items b × (b.stamp ≡ stamp)
+        × IsOutcome (base_of book.old) book.old.history.items b writes.now }
     ensures holds { HoldsBook book.new }
     ensures base { base_of book.new ≡ base_of book.old }
     ensures decision { IfOk result (IsDecision book.old.history.items stamp writes.now) }
-    ensures entry { IfOk result (λ decision. (b : Begun) → IsOpen book.old.history.items b → b.stamp ≡ stamp → book.new.history.items ≡ after_decision b writes.now decision book.old.history.items) }
+    ensures entry { IfOk result
+        (λ decision. (b : Begun) → IsOpen book.old.history.items b → b.stamp ≡ stamp
+        → book.new.history.items ≡ after_decision b writes.now decision book.old.history.items) }
     ensures err { OnErr result (book.new.history.items ≡ book.old.history.items) }
 {
     match find_reader(&book.versions, writes.as_slice(), stamp) {

@@ -23,7 +23,8 @@ pub fn place_of(book: &Book, stamp: u64) -> usize
 pub fn txn_of(book: &Book, stamp: u64) -> TxnState
     requires holds { HoldsBook book.now }
     requires is_open { (b : Begun) × IsOpen book.now.history.items b × (b.stamp ≡ stamp) }
-    ensures txn { (b : Begun) → IsOpen book.now.history.items b → b.stamp ≡ stamp → HoldsTxn book.now.history.items b result }
+    ensures txn { (b : Begun) → IsOpen book.now.history.items b → b.stamp ≡ stamp
+        → HoldsTxn book.now.history.items b result }
     ensures script { result.script < length book.now.bodies.now }
 {
     book.txns[place_of(book, stamp)]
@@ -35,7 +36,9 @@ pub fn cancel(book: &mut Book, stamp: u64)
     requires is_open { (b : Begun) × IsOpen book.old.history.items b × (b.stamp ≡ stamp) }
     ensures holds { HoldsBook book.new }
     ensures base { base_of book.new ≡ base_of book.old }
-    ensures entry { (b : Begun) → IsOpen book.old.history.items b → b.stamp ≡ stamp → book.new.history.items ≡ book.old.history.items ++ record { caller = b.caller; stamp = stamp; event = events.Cancel } ∷ [] }
+    ensures entry { (b : Begun) → IsOpen book.old.history.items b → b.stamp ≡ stamp
+        → book.new.history.items ≡ book.old.history.items
+        ++ record { caller = b.caller; stamp = stamp; event = events.Cancel } ∷ [] }
 {
     let txn = txn_of(book, stamp);
     book.open_stamps.remove(&stamp);

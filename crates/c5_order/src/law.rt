@@ -7,10 +7,11 @@ ghost use Rattle.c5_definitions.specs.OrderLog.{IsOrderHistory, IsStampOrderRun,
 
 use c5_eval::evaluation_law;
 
-/// The committed transactions of a history, in the order of their stamps, are a run of their bodies one after
-/// the other from the rows at the start, and none of the bodies comes twice.
+/// The committed transactions of a history, in the order of their stamps, are a run of their bodies
+/// one after the other from the rows at the start, and none of the bodies comes twice.
 pub fn order_law()
-    ensures { (base : OrderBase) (history : List Entry) → IsOrderHistory base history → IsStampOrderRun base (committed history) }
+    ensures { (base : OrderBase) (history : List Entry) → IsOrderHistory base history
+        → IsStampOrderRun base (committed history) }
 {
     evaluation_law();
 }

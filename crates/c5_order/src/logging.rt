@@ -3,7 +3,7 @@
 ghost use Rattle.std.specs.Prelude.{◌≡◌, ◌<◌, ◌≤◌, ◌+◌, ◌++◌, ◌∷◌, [], length, IfOk, OnOk};
 ghost use Rattle.std.specs.Option.{option_copied};
 ghost use Rattle.c5_rows.specs.declared.writes.Write.{Write};
-ghost use Rattle.c5_definitions.specs.OrderLog.{committed, committed_stamp, log_of};
+ghost use Rattle.c5_definitions.specs.OrderLog.{committed, committed_stamp, history_log};
 ghost use Rattle.c5_order.specs.Answers.{IsLeastOpen};
 ghost use Rattle.c5_order.specs.Book.{HoldsBook, IsClosedCount, committed_at, committed_by, logged};
 
@@ -46,7 +46,8 @@ fn push_entry(
     entry: &Entry,
     script: u32,
 ) -> Result<(), NoMemory>
-    ensures { OnOk result (txns.new.items ≡ txns.old.items ++ committed_by script entry.now entry.now.event) }
+    ensures { OnOk result (txns.new.items
+        ≡ txns.old.items ++ committed_by script entry.now entry.now.event) }
 {
     match &entry.event {
         Event::Commit { writes } => {
@@ -70,7 +71,8 @@ fn push_commit(
     place: usize,
     script: u32,
 ) -> Result<(), NoMemory>
-    ensures { OnOk result (txns.new.items ≡ txns.old.items ++ committed_at history.now place script) }
+    ensures { OnOk result (txns.new.items
+        ≡ txns.old.items ++ committed_at history.now place script) }
 {
     match history.get(place) {
         Some(entry) => push_entry(alloc, txns, entry, script),
@@ -106,7 +108,7 @@ fn count_closed(book: &Book) -> usize
 /// The committed transactions below the least open stamp, by stamp.
 pub fn log(book: &Book) -> Result<Vec<Txn>, NoMemory>
     requires { HoldsBook book.now }
-    ensures { IfOk result (λ txns. txns.items ≡ log_of book.now.history.items) }
+    ensures { IfOk result (λ txns. txns.items ≡ history_log book.now.history.items) }
 {
     logged(book.alloc, &book.history, &book.txns[..count_closed(book)])
 }

@@ -5,12 +5,14 @@ ghost use Rattle.std.specs.BTreeMap.{IsOrdered};
 ghost use Rattle.std.specs.List.{All};
 ghost use Rattle.c5_rows.specs.declared.writes.RowName.{RowName as Name};
 ghost use Rattle.c5_order.specs.declared.marks.VersionKey.{VersionKey as Key};
-ghost use Rattle.c5_order.specs.Marks.{version_key_cmp, version_key, mark_at, IsFoundBefore, marked, installed, removed, IsUnread, IsFirstRead};
+ghost use Rattle.c5_order.specs.Marks.{version_key_cmp, version_key, noted_mark, IsMarkFoundBefore};
+ghost use Rattle.c5_order.specs.Marks.{marked, mark_after_install, removed, IsUnread, IsFirstRead};
 
 use c5_rows::{NoMemory, RowName, Write};
 use std::collections::BTreeMap;
 
-/// A version of a row: the row, and the stamp of the commit that wrote it. The start version has the stamp 0.
+/// A version of a row: the row, and the stamp of the commit that wrote it. The start version has
+/// the stamp 0.
 #[derive(Clone, Copy, Debug, PartialEq, Eq, PartialOrd, Ord)]
 pub struct VersionKey {
     pub name: RowName,
@@ -29,7 +31,7 @@ pub struct Found {
 /// The version of the row that a stamp sees: the one with the greatest stamp below it.
 pub fn find(versions: &BTreeMap<VersionKey, u64>, name: &RowName, stamp: u64) -> Found
     requires { 1 ≤ stamp }
-    ensures { IsFoundBefore versions.now name.now stamp result }
+    ensures { IsMarkFoundBefore versions.now name.now stamp result }
 {
     let low = VersionKey {
         name: *name,
@@ -51,15 +53,16 @@ pub fn find(versions: &BTreeMap<VersionKey, u64>, name: &RowName, stamp: u64) ->
     }
 }
 
-/// Notes that a stamp has read a version. A greater reader stays. After `NoMemory` nothing has changed; a version
-/// that has an entry needs no memory.
+/// Notes that a stamp has read a version. A greater reader stays. After `NoMemory` nothing has
+/// changed; a version that has an entry needs no memory.
 pub fn mark(
     versions: &mut BTreeMap<VersionKey, u64>,
     key: VersionKey,
     stamp: u64,
 ) -> Result<(), NoMemory>
-    ensures ok { OnOk result ((q : Key) → mark_at versions.new q ≡ marked key stamp q (mark_at versions.old q)) }
-    ensures err { OnErr result ((q : Key) → mark_at versions.new q ≡ mark_at versions.old q) }
+    ensures ok { OnOk result ((q : Key) → noted_mark versions.new q
+        ≡ marked key stamp q (noted_mark versions.old q)) }
+    ensures err { OnErr result ((q : Key) → noted_mark versions.new q ≡ noted_mark versions.old q) }
     ensures ordered { IsOrdered version_key_cmp versions.new }
 {
     match versions.get_mut(&key) {
@@ -73,7 +76,8 @@ pub fn mark(
 
 // Takes the versions of these writes out again.
 fn remove(versions: &mut BTreeMap<VersionKey, u64>, writes: &[Write], stamp: u64)
-    ensures removed { (q : Key) → mark_at versions.new q ≡ removed stamp writes.now q (mark_at versions.old q) }
+    ensures removed { (q : Key) → noted_mark versions.new q
+        ≡ removed stamp writes.now q (noted_mark versions.old q) }
     ensures ordered { IsOrdered version_key_cmp versions.new }
 {
     for done in 0..writes.len() {
@@ -86,15 +90,17 @@ fn remove(versions: &mut BTreeMap<VersionKey, u64>, writes: &[Write], stamp: u64
     versions.len();
 }
 
-/// Adds the versions that a stamp writes, of which none has an entry yet. After `NoMemory` nothing has changed.
+/// Adds the versions that a stamp writes, of which none has an entry yet. After `NoMemory` nothing
+/// has changed.
 pub fn install(
     versions: &mut BTreeMap<VersionKey, u64>,
     writes: &[Write],
     stamp: u64,
 ) -> Result<(), NoMemory>
-    requires { (name : Name) → mark_at versions.old (version_key name stamp) ≡ None }
-    ensures ok { OnOk result ((q : Key) → mark_at versions.new q ≡ installed stamp writes.now q (mark_at versions.old q)) }
-    ensures err { OnErr result ((q : Key) → mark_at versions.new q ≡ mark_at versions.old q) }
+    requires { (name : Name) → noted_mark versions.old (version_key name stamp) ≡ None }
+    ensures ok { OnOk result ((q : Key) → noted_mark versions.new q
+        ≡ mark_after_install stamp writes.now q (noted_mark versions.old q)) }
+    ensures err { OnErr result ((q : Key) → noted_mark versions.new q ≡ noted_mark versions.old q) }
     ensures ordered { IsOrdered version_key_cmp versions.new }
 {
     for done in 0..writes.len() {
@@ -130,7 +136,8 @@ pub fn find_reader(
     stamp: u64,
 ) -> Option<LaterReader>
     requires { 1 ≤ stamp }
-    ensures { MatchOption result (All (IsUnread versions.now stamp) writes.now) (IsFirstRead versions.now stamp writes.now) }
+    ensures { MatchOption result (All (IsUnread versions.now stamp) writes.now)
+        (IsFirstRead versions.now stamp writes.now) }
 {
     for write in writes {
         let found = find(versions, &write.name, stamp);

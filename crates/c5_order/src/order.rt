@@ -1,12 +1,15 @@
 //! The order book.
 
-ghost use Rattle.std.specs.Prelude.{◌≡◌, ◌<◌, ◌≤◌, ◌+◌, ◌++◌, ◌∷◌, ◌⊎◌, [], length, Err, replicate, IfOk, OnOk, OnErr};
+ghost use Rattle.std.specs.Prelude.{◌≡◌, ◌<◌, ◌≤◌, ◌+◌, ◌++◌, ◌∷◌, ◌⊎◌, [], length, Err, replicate};
+ghost use Rattle.std.specs.Prelude.{IfOk, OnOk, OnErr};
 ghost use Rattle.c5_definitions.specs.declared.history.Event.TheVariants as events;
-ghost use Rattle.c5_definitions.specs.History.{Begun, last_stamp, value_at};
-ghost use Rattle.c5_definitions.specs.OrderLog.{IsOpen, IsOutcome, IsOrderHistory, committed, committed_stamp, log_of};
+ghost use Rattle.c5_definitions.specs.History.{Begun, last_stamp, row_seen};
+ghost use Rattle.c5_definitions.specs.OrderLog.{IsOpen, IsOutcome, IsOrderHistory, committed};
+ghost use Rattle.c5_definitions.specs.OrderLog.{committed_stamp, history_log};
 ghost use Rattle.c5_order.specs.declared.answers.BeginFault.TheVariants as faults;
 ghost use Rattle.c5_order.specs.declared.book.BodyState.TheVariants as bodies;
 ghost use Rattle.c5_order.specs.Answers.{begin_answer, after_decision, IsDecision, IsLeastOpen};
+ghost use Rattle.c5_rows.specs.Sizes.{max_transactions};
 
 use crate::answers::{BeginFault, Decision};
 use crate::book::{BodyState, Book};
@@ -29,8 +32,8 @@ pub struct OrderState {
 
 /// Transactions that run at the same time, under multiversion timestamp ordering.
 ///
-/// A transaction is known by its stamp. It sees the rows as the transactions with smaller stamps left them, and what
-/// commits is a serial run in the order of the stamps.
+/// A transaction is known by its stamp. It sees the rows as the transactions with smaller stamps
+/// left them, and what commits is a serial run in the order of the stamps.
 #[derive(Drop)]
 pub struct Order<'s> {
     book: Book<'s>,
@@ -46,7 +49,8 @@ impl<'s> Model for Order<'s> {
 
     ghost Value = { OrderState };
 
-    ghost coded = { Prim.hlevel (codes, map.code {R = row_name_cmp} coded_row_name (coded_list coded_cell)) };
+    ghost coded = { Prim.hlevel
+        (codes, map.code {R = row_name_cmp} coded_row_name (coded_list coded_cell)) };
 
     ghost view = { λ o. record { base = base_of o.book; history = o.book.history.items } };
 
@@ -68,8 +72,12 @@ impl<'s> Order<'s> {
         start: Rows,
         last: u64,
     ) -> Result<Order<'s>, NoMemory>
-        requires { length bodies.now ≤ 65536 }
-        ensures { IfOk result (λ order. order ≡ record { base = record { bodies = bodies.now; start = start; last = last }; history = [] }) }
+        requires { length bodies.now ≤ max_transactions }
+        ensures { IfOk result (λ order. order
+            ≡ record {
+              base = record { bodies = bodies.now; start = start; last = last };
+              history = [];
+            }) }
     {
         let states = free_states(alloc, bodies.len())?;
         Ok(Order {
@@ -119,7 +127,7 @@ impl<'s> Order<'s> {
 
     /// The committed transactions below the least open stamp, in the order of their stamps.
     pub fn log(&self) -> Result<Vec<Txn>, NoMemory>
-        ensures { IfOk result (λ txns. txns.items ≡ log_of self.now.history) }
+        ensures { IfOk result (λ txns. txns.items ≡ history_log self.now.history) }
     {
         logging::log(&self.book)
     }
@@ -133,35 +141,52 @@ impl<'s> Order<'s> {
 
     /// Begins a transaction of the body of this number, with the stamp after the last one.
     ///
-    /// It is refused if the body is committed; else if a transaction of the body is open; else if there is no
-    /// stamp after the last one. A refusal changes nothing.
+    /// It is refused if the body is committed; else if a transaction of the body is open; else if
+    /// there is no stamp after the last one. A refusal changes nothing.
     pub fn begin(&mut self, caller: u64, script: u32) -> Result<u64, BeginFault>
         requires { script < length self.old.base.bodies }
-        ensures answer { (result ≡ begin_answer self.old.base.last self.old.history script) ⊎ (result ≡ Err faults.NoMemory) }
-        ensures ok { IfOk result (λ stamp. self.new ≡ record self.old { history = self.old.history ++ record { caller = caller; stamp = stamp; event = events.Begin script } ∷ [] }) }
+        ensures answer { (result ≡ begin_answer self.old.base.last self.old.history script)
+            ⊎ (result ≡ Err faults.NoMemory) }
+        ensures ok { IfOk result
+            (λ stamp. self.new
+            ≡ record self.old {
+              history = self.old.history
+                  ++ record { caller = caller; stamp = stamp; event = events.Begin script } ∷ [];
+            }) }
         ensures err { OnErr result (self.new ≡ self.old) }
     {
         beginning::begin(&mut self.book, caller, script)
     }
 
-    /// The row that an open stamp sees: that of the commit with the greatest stamp below it. The read is recorded.
-    /// After `NoMemory` nothing has changed.
+    /// The row that an open stamp sees: that of the commit with the greatest stamp below it. The
+    /// read is recorded. After `NoMemory` nothing has changed.
     pub fn read(&mut self, stamp: u64, name: &RowName) -> Result<Option<Row>, NoMemory>
         requires { (b : Begun) × IsOpen self.old.history b × (b.stamp ≡ stamp) }
-        ensures row { IfOk result (λ row. row ≡ value_at self.old.base.start self.old.history name.now stamp) }
-        ensures ok { OnOk result ((b : Begun) → IsOpen self.old.history b → b.stamp ≡ stamp → self.new ≡ record self.old { history = self.old.history ++ record { caller = b.caller; stamp = stamp; event = events.Read name.now } ∷ [] }) }
+        ensures row { IfOk result
+            (λ row. row ≡ row_seen self.old.base.start self.old.history name.now stamp) }
+        ensures ok { OnOk result
+            ((b : Begun) → IsOpen self.old.history b → b.stamp ≡ stamp
+            → self.new
+            ≡ record self.old {
+              history = self.old.history
+                  ++ record { caller = b.caller; stamp = stamp; event = events.Read name.now } ∷ [];
+            }) }
         ensures err { OnErr result (self.new ≡ self.old) }
     {
         reading::read(&mut self.book, stamp, name)
     }
 
-    /// Commits an open stamp, unless a later stamp has read the version of a row of the writes that this stamp
-    /// sees. The writes are those that its body gives on what it has read. After a conflict or `NoMemory` the
-    /// transaction is still open, and nothing has changed.
+    /// Commits an open stamp, unless a later stamp has read the version of a row of the writes that
+    /// this stamp sees. The writes are those that its body gives on what it has read. After a
+    /// conflict or `NoMemory` the transaction is still open, and nothing has changed.
     pub fn commit(&mut self, stamp: u64, writes: &Writes) -> Result<Decision, NoMemory>
-        requires { (b : Begun) × IsOpen self.old.history b × (b.stamp ≡ stamp) × IsOutcome self.old.base self.old.history b writes.now }
+        requires { (b : Begun) × IsOpen self.old.history b × (b.stamp ≡ stamp)
+            × IsOutcome self.old.base self.old.history b writes.now }
         ensures decision { IfOk result (IsDecision self.old.history stamp writes.now) }
-        ensures ok { IfOk result (λ decision. (b : Begun) → IsOpen self.old.history b → b.stamp ≡ stamp → self.new ≡ record self.old { history = after_decision b writes.now decision self.old.history }) }
+        ensures ok { IfOk result
+            (λ decision. (b : Begun) → IsOpen self.old.history b → b.stamp ≡ stamp
+            → self.new
+            ≡ record self.old { history = after_decision b writes.now decision self.old.history }) }
         ensures err { OnErr result (self.new ≡ self.old) }
     {
         committing::commit(&mut self.book, stamp, writes)
@@ -170,7 +195,12 @@ impl<'s> Order<'s> {
     /// Cancels an open stamp. Its reads still count. It takes no memory.
     pub fn cancel(&mut self, stamp: u64)
         requires { (b : Begun) × IsOpen self.old.history b × (b.stamp ≡ stamp) }
-        ensures { (b : Begun) → IsOpen self.old.history b → b.stamp ≡ stamp → self.new ≡ record self.old { history = self.old.history ++ record { caller = b.caller; stamp = stamp; event = events.Cancel } ∷ [] } }
+        ensures { (b : Begun) → IsOpen self.old.history b → b.stamp ≡ stamp
+            → self.new
+            ≡ record self.old {
+              history = self.old.history
+                  ++ record { caller = b.caller; stamp = stamp; event = events.Cancel } ∷ [];
+            } }
     {
         ending::cancel(&mut self.book, stamp)
     }

@@ -22,7 +22,7 @@ use Rattle.c5_definitions.specs.WriteNumbers.{names_in}
 use Rattle.c5_frames.specs.Index.{writes_of}
 use Rattle.c5_plan.specs.declared.written.NameRef.{NameRef}
 use Rattle.c5_plan.specs.declared.written.WrittenRow.{WrittenRow}
-use Rattle.c5_plan.specs.Noted.{named, Notes, ListsNotes, row_of}
+use Rattle.c5_plan.specs.Noted.{name_of_ref, Notes, ListsNotes, written_row}
 use Rattle.c5_plan.specs.Written.{is_same_name, AreWrittenRows}
 use Rattle.c5_plan.proofs.Sizing.{length-names_in}
 use Rattle.c5_plan.proofs.Noting.{same_laws, IsPlaceOf, place_of_last, length-noted}
@@ -30,30 +30,30 @@ use Rattle.c5_plan.proofs.Noting.{same_laws, IsPlaceOf, place_of_last, length-no
 -- with the names themselves
 by_name : List (NameRef × ℕ) → List (RowName × ℕ)
 by_name [] = []
-by_name (e ∷ entries) = (named e.0, e.1) ∷ by_name entries
+by_name (e ∷ entries) = (name_of_ref e.0, e.1) ∷ by_name entries
 
-keys_of-by_name : (entries : List (NameRef × ℕ)) → keys_of (by_name entries) ≡ map named (keys_of entries)
+keys_of-by_name : (entries : List (NameRef × ℕ)) → keys_of (by_name entries) ≡ map name_of_ref (keys_of entries)
 unfolding by_name
 keys_of-by_name [] = refl
-keys_of-by_name (e ∷ entries) = ap (λ (ns : List RowName). named e.0 ∷ ns) (keys_of-by_name entries)
+keys_of-by_name (e ∷ entries) = ap (λ (ns : List RowName). name_of_ref e.0 ∷ ns) (keys_of-by_name entries)
 
-lookup-by_name : (name : RowName) (entries : List (NameRef × ℕ)) → lookup (is_same_name name) (by_name entries) ≡ lookup (λ (n : NameRef). is_same_name name (named n)) entries
+lookup-by_name : (name : RowName) (entries : List (NameRef × ℕ)) → lookup (is_same_name name) (by_name entries) ≡ lookup (λ (n : NameRef). is_same_name name (name_of_ref n)) entries
 unfolding by_name
 lookup-by_name name [] = refl
-lookup-by_name name (e ∷ entries) = ap (λ (o : Option ℕ). cond (is_same_name name (named e.0)) (Some e.1) o) (lookup-by_name name entries)
+lookup-by_name name (e ∷ entries) = ap (λ (o : Option ℕ). cond (is_same_name name (name_of_ref e.0)) (Some e.1) o) (lookup-by_name name entries)
 
-slice_get-by_name : (entries : List (NameRef × ℕ)) (i : ℕ) (e : NameRef × ℕ) → slice_get entries i ≡ Some e → slice_get (by_name entries) i ≡ Some (named e.0, e.1)
+slice_get-by_name : (entries : List (NameRef × ℕ)) (i : ℕ) (e : NameRef × ℕ) → slice_get entries i ≡ Some e → slice_get (by_name entries) i ≡ Some (name_of_ref e.0, e.1)
 unfolding by_name
 slice_get-by_name [] i e h = cc
-slice_get-by_name (x ∷ entries) zero e h = let is : x ≡ e = cc in ap (λ (p : NameRef × ℕ). Some (named p.0, p.1)) is
+slice_get-by_name (x ∷ entries) zero e h = let is : x ≡ e = cc in ap (λ (p : NameRef × ℕ). Some (name_of_ref p.0, p.1)) is
 slice_get-by_name (x ∷ entries) (suc i) e h = slice_get-by_name entries i e h
 
 -- each pair has the number of the last write of its name
-noted-place : (entries : List (NameRef × ℕ)) (names : List RowName) → Notes entries names → (i : ℕ) (e : NameRef × ℕ) → slice_get entries i ≡ Some e → IsPlaceOf (named e.0) 1 names e.1
+noted-place : (entries : List (NameRef × ℕ)) (names : List RowName) → Notes entries names → (i : ℕ) (e : NameRef × ℕ) → slice_get entries i ≡ Some e → IsPlaceOf (name_of_ref e.0) 1 names e.1
 noted-place entries names h i e at =
     let distinct = subst (IsDistinct is_same_name) (sym (keys_of-by_name entries)) h.distinct in
-    place_of_last (named e.0) 1 names e.1
-    (sym (h.last (named e.0)) ∙ sym (lookup-by_name (named e.0) entries) ∙ lookup_from_place same_laws (by_name entries) i (named e.0) e.1 distinct (slice_get-by_name entries i e at))
+    place_of_last (name_of_ref e.0) 1 names e.1
+    (sym (h.last (name_of_ref e.0)) ∙ sym (lookup-by_name (name_of_ref e.0) entries) ∙ lookup_from_place same_laws (by_name entries) i (name_of_ref e.0) e.1 distinct (slice_get-by_name entries i e at))
 
 pair_at : (entries : List (NameRef × ℕ)) (i : ℕ) → i < length entries → (e : NameRef × ℕ) × (slice_get entries i ≡ Some e)
 pair_at [] i h = absurd (omega arith)
@@ -72,7 +72,7 @@ pub record IsPairAt (txns : List Txn) (entries : List (NameRef × ℕ)) (i v : �
   pub value : v ≡ pair.1
   pub some : 1 ≤ v
   pub within : v ≤ length (writes_of txns)
-  pub name : slice_get (names_in txns) (v - 1) ≡ Some (named pair.0)
+  pub name : slice_get (names_in txns) (v - 1) ≡ Some (name_of_ref pair.0)
 
 pub noted-pair : (txns : List Txn) (entries : List (NameRef × ℕ)) → Notes entries (names_in txns) → (i d : ℕ) (values : List ℕ) → values ≡ values_of entries → i < length values → IsPairAt txns entries i (get_or values i d)
 noted-pair txns entries h i d values e less =
@@ -91,30 +91,30 @@ noted-pair txns entries h i d values e less =
       name = ap (λ (v : ℕ). slice_get (names_in txns) (v - 1)) value ∙ place.there;
     }
 
-taken-pair : (entries : List (NameRef × ℕ)) (i : ℕ) (e : NameRef × ℕ) → slice_get entries i ≡ Some e → map row_of (take (suc i) entries) ≡ map row_of (take i entries) ++ row_of e ∷ []
+taken-pair : (entries : List (NameRef × ℕ)) (i : ℕ) (e : NameRef × ℕ) → slice_get entries i ≡ Some e → map written_row (take (suc i) entries) ≡ map written_row (take i entries) ++ written_row e ∷ []
 taken-pair [] i e at = cc
-taken-pair (x ∷ entries) zero e at = let is : x ≡ e = cc in ap (λ (p : NameRef × ℕ). row_of p ∷ []) is
-taken-pair (x ∷ entries) (suc i) e at = ap (λ (rs : List WrittenRow). row_of x ∷ rs) (taken-pair entries i e at)
+taken-pair (x ∷ entries) zero e at = let is : x ≡ e = cc in ap (λ (p : NameRef × ℕ). written_row p ∷ []) is
+taken-pair (x ∷ entries) (suc i) e at = ap (λ (rs : List WrittenRow). written_row x ∷ rs) (taken-pair entries i e at)
 
-pub listed-more : (txns : List Txn) (entries : List (NameRef × ℕ)) (i v : ℕ) (rows after : List WrittenRow) (write : Write) (name : RowName) → IsPairAt txns entries i v → rows ≡ map row_of (take i entries)
-    → slice_get (writes_of txns) (v - 1) ≡ Some write → name ≡ write.name → after ≡ rows ++ record { name = name; last = v } ∷ [] → after ≡ map row_of (take (i + 1) entries)
+pub listed-more : (txns : List Txn) (entries : List (NameRef × ℕ)) (i v : ℕ) (rows after : List WrittenRow) (write : Write) (name : RowName) → IsPairAt txns entries i v → rows ≡ map written_row (take i entries)
+    → slice_get (writes_of txns) (v - 1) ≡ Some write → name ≡ write.name → after ≡ rows ++ record { name = name; last = v } ∷ [] → after ≡ map written_row (take (i + 1) entries)
 unfolding names_in
 listed-more txns entries i v rows after write name p h at same e =
-    let named_so : Some write.name ≡ Some (named p.pair.0) =
+    let named_so : Some write.name ≡ Some (name_of_ref p.pair.0) =
     ap (option_map (λ (w : Write). w.name)) (sym at) ∙ sym (slice_get-map (λ (w : Write). w.name) (writes_of txns) (v - 1)) ∙ p.name in
-    let is : name ≡ named p.pair.0 = cc in
-    e ∙ (λ j. h j ++ record { name = is j; last = p.value j } ∷ []) ∙ sym (taken-pair entries i p.pair p.there) ∙ ap (λ (n : ℕ). map row_of (take n entries)) (let next : suc i ≡ i + 1 = omega arith in next)
+    let is : name ≡ name_of_ref p.pair.0 = cc in
+    e ∙ (λ j. h j ++ record { name = is j; last = p.value j } ∷ []) ∙ sym (taken-pair entries i p.pair p.there) ∙ ap (λ (n : ℕ). map written_row (take n entries)) (let next : suc i ≡ i + 1 = omega arith in next)
 
 -- ---- in order
 
-pairs-listed : (entries : List (NameRef × ℕ)) → map (λ (r : WrittenRow). (r.name, r.last)) (map row_of entries) ≡ by_name entries
+pairs-listed : (entries : List (NameRef × ℕ)) → map (λ (r : WrittenRow). (r.name, r.last)) (map written_row entries) ≡ by_name entries
 unfolding by_name
 pairs-listed [] = refl
-pairs-listed (e ∷ entries) = ap (λ (ps : List (RowName × ℕ)). (named e.0, e.1) ∷ ps) (pairs-listed entries)
+pairs-listed (e ∷ entries) = ap (λ (ps : List (RowName × ℕ)). (name_of_ref e.0, e.1) ∷ ps) (pairs-listed entries)
 
-names-listed : (entries : List (NameRef × ℕ)) → map (λ (r : WrittenRow). r.name) (map row_of entries) ≡ map named (keys_of entries)
+names-listed : (entries : List (NameRef × ℕ)) → map (λ (r : WrittenRow). r.name) (map written_row entries) ≡ map name_of_ref (keys_of entries)
 names-listed [] = refl
-names-listed (e ∷ entries) = ap (λ (ns : List RowName). named e.0 ∷ ns) (names-listed entries)
+names-listed (e ∷ entries) = ap (λ (ns : List RowName). name_of_ref e.0 ∷ ns) (names-listed entries)
 
 keys-pairs : (rows : List WrittenRow) → keys_of (map (λ (r : WrittenRow). (r.name, r.last)) rows) ≡ map (λ (r : WrittenRow). r.name) rows
 keys-pairs [] = refl
@@ -152,16 +152,16 @@ pub written : (names : List RowName) (listed rows : List WrittenRow) → ListsNo
 written names listed rows lists given sorted =
     let entries = lists.entries in
     let h = lists.notes in
-    let moves : IsPermutation (map row_of entries) rows = subst (λ (ls : List WrittenRow). IsPermutation ls rows) lists.listed given in
+    let moves : IsPermutation (map written_row entries) rows = subst (λ (ls : List WrittenRow). IsPermutation ls rows) lists.listed given in
     let distinct : IsDistinct is_same_name (map (λ (r : WrittenRow). r.name) rows) =
-    IsDistinct-IsPermutation is_same_name same_laws.symm (map named (keys_of entries)) (map (λ (r : WrittenRow). r.name) rows)
-    (subst (λ (ns : List RowName). IsPermutation ns (map (λ (r : WrittenRow). r.name) rows)) (names-listed entries) (IsPermutation-map (λ (r : WrittenRow). r.name) (map row_of entries) rows moves)) h.distinct in
+    IsDistinct-IsPermutation is_same_name same_laws.symm (map name_of_ref (keys_of entries)) (map (λ (r : WrittenRow). r.name) rows)
+    (subst (λ (ns : List RowName). IsPermutation ns (map (λ (r : WrittenRow). r.name) rows)) (names-listed entries) (IsPermutation-map (λ (r : WrittenRow). r.name) (map written_row entries) rows moves)) h.distinct in
     let pairs : IsPermutation (by_name entries) (map (λ (r : WrittenRow). (r.name, r.last)) rows) =
-    subst (λ (ps : List (RowName × ℕ)). IsPermutation ps (map (λ (r : WrittenRow). (r.name, r.last)) rows)) (pairs-listed entries) (IsPermutation-map (λ (r : WrittenRow). (r.name, r.last)) (map row_of entries) rows moves) in
+    subst (λ (ps : List (RowName × ℕ)). IsPermutation ps (map (λ (r : WrittenRow). (r.name, r.last)) rows)) (pairs-listed entries) (IsPermutation-map (λ (r : WrittenRow). (r.name, r.last)) (map written_row entries) rows moves) in
     record {
       ascending = strict (map (λ (r : WrittenRow). r.name) rows) (sorted-names rows sorted) distinct;
       last = λ name.
           lookup_permutation same_laws (by_name entries) (map (λ (r : WrittenRow). (r.name, r.last)) rows) pairs (subst (IsDistinct is_same_name) (sym (keys-pairs rows)) distinct) (is_same_name name) (λ x y e. same_laws.congr name x y e)
           ∙ lookup-by_name name entries ∙ h.last name;
-      count = length_permutation (map row_of entries) rows moves ∙ length-map entries row_of ∙ length-noted entries names h;
+      count = length_permutation (map written_row entries) rows moves ∙ length-map entries written_row ∙ length-noted entries names h;
     }

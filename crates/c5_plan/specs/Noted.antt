@@ -8,13 +8,14 @@ use Rattle.c5_plan.specs.declared.written.WrittenRow.{WrittenRow}
 use Rattle.c5_plan.specs.Written.{is_same_name, row_count, last_write}
 
 -- the name that is borrowed
-abbrev pub named : NameRef → RowName
-named name = record { table = name.table; key = name.key.now }
+abbrev pub name_of_ref : NameRef → RowName
+name_of_ref name = record { table = name.table; key = name.key.now }
 
 -- each name once, and of every name the number of its last write
 pub record Notes (entries : List (NameRef × ℕ)) (names : List RowName) : Type 0 where
-  pub distinct : IsDistinct is_same_name (map named (keys_of entries))
-  pub last : (name : RowName) → lookup (λ (n : NameRef). is_same_name name (named n)) entries ≡ last_write name names
+  pub distinct : IsDistinct is_same_name (map name_of_ref (keys_of entries))
+  pub last : (name : RowName) → lookup (λ (n : NameRef). is_same_name name (name_of_ref n)) entries
+      ≡ last_write name names
 
 -- the same, of at most so many rows
 pub record NotesUpTo (most : ℕ) (entries : List (NameRef × ℕ)) (names : List RowName) : Type 0 where
@@ -23,11 +24,11 @@ pub record NotesUpTo (most : ℕ) (entries : List (NameRef × ℕ)) (names : Lis
   pub within : length entries ≤ most
 
 -- the row that a pair notes
-abbrev pub row_of : NameRef × ℕ → WrittenRow
-row_of pair = record { name = named pair.0; last = pair.1 }
+abbrev pub written_row : NameRef × ℕ → WrittenRow
+written_row pair = record { name = name_of_ref pair.0; last = pair.1 }
 
 -- the rows are those of such pairs, in some order
 pub record ListsNotes (rows : List WrittenRow) (names : List RowName) : Type 0 where
   pub entries : List (NameRef × ℕ)
   pub notes : Notes entries names
-  pub listed : rows ≡ map row_of entries
+  pub listed : rows ≡ map written_row entries

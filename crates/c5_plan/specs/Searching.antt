@@ -3,7 +3,8 @@ use Rattle.std.specs.Prelude.{◌<◌, ◌≤◌, ◌+◌, ℕ, List, length}
 use Rattle.c5_rows.specs.declared.writes.Txn.{Txn}
 use Rattle.c5_definitions.specs.WriteNumbers.{end_of}
 
--- the writes of one place are below the number, and those of each place from the other one on aren't
+-- the writes of one place are below the number, and those of each place from the other one on
+-- aren't
 pub record IsBetween (txns : List Txn) (least below above : ℕ) : Type 0 where
   pub order : below < above
   pub within : above ≤ length txns + 1

@@ -6,7 +6,7 @@ mod plans;
 mod written;
 
 pub use planned::Plan;
-pub use plans::{MAX_TRANSACTIONS, MAX_WRITES, PlanFault, plan};
+pub use plans::{PlanFault, plan};
 pub use written::{WrittenRow, count_rows, written_rows};
 
 #[cfg(test)]

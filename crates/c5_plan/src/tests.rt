@@ -5,7 +5,8 @@ use c5_rows::{Key, NoMemory, RowName};
 use std::alloc::Global;
 use std::test::Fail;
 
-// Four transactions over one table of an Int column: `b` and `c`; none; `a` and `b`; and `b` is deleted.
+// Four transactions over one table of an Int column: `b` and `c`; none; `a` and `b`; and `b` is
+// deleted.
 const LOG: &[u8] = b"C5L1\x01\x04acct\x01\x01\
     \0\0\0\x0dW\0\x01b\0\0\0\0\0\0\0\0\x01\
     \0\0\0\x0dW\0\x01c\0\0\0\0\0\0\0\0\x02\

@@ -26,14 +26,16 @@ struct NameRef<'a> {
 
 ghost use Rattle.c5_plan.specs.Noted.{Notes, NotesUpTo, ListsNotes};
 
-// The number of the last write of each row that the log writes, by the row's name; `None` if there are more
-// than `most` rows.
+// The number of the last write of each row that the log writes, by the row's name; `None` if there
+// are more than `most` rows.
 fn noted<'a>(
     alloc: Global,
     log: &'a LogBuffer,
     most: u32,
 ) -> Result<Option<IndexMap<NameRef<'a>, u32>>, NoMemory>
-    ensures { IfOk result (λ found. MatchOption found (most < row_count (names_in log.now.txns)) (λ rows. NotesUpTo most rows.entries (names_in log.now.txns))) }
+    ensures { IfOk result
+        (λ found. MatchOption found (most < row_count (names_in log.now.txns))
+        (λ rows. NotesUpTo most rows.entries (names_in log.now.txns))) }
 {
     let mut rows = IndexMap::new(alloc);
     for before in 0..log.writes() {
@@ -82,14 +84,17 @@ fn listed<'a>(
     Ok(rows)
 }
 
-/// The rows that the log writes, ascending by name; `None` if and only if there are more than `most`.
+/// The rows that the log writes, ascending by name; `None` if and only if there are more than
+/// `most`.
 pub fn written_rows(
     alloc: Global,
     log: &LogBuffer,
     most: u32,
 ) -> Result<Option<Vec<WrittenRow>>, NoMemory>
-    ensures too_many { IfOk result (λ found. IsNone found ↔ (most < row_count (names_in log.now.txns))) }
-    ensures rows { IfOk result (λ found. IfSome found (λ rows. AreWrittenRows rows.items (names_in log.now.txns))) }
+    ensures too_many { IfOk result
+        (λ found. IsNone found ↔ (most < row_count (names_in log.now.txns))) }
+    ensures rows { IfOk result
+        (λ found. IfSome found (λ rows. AreWrittenRows rows.items (names_in log.now.txns))) }
 {
     let Some(noted) = noted(alloc, log, most)? else {
         return Ok(None);

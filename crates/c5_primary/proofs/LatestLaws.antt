@@ -16,16 +16,16 @@ use Rattle.c5_rows.specs.Order.{row_name_cmp, row_name_cmp_total}
 use Rattle.c5_rows.specs.State.{State, after_change, after_writes, after_txns}
 use Rattle.c5_rows.specs.Writes.{IsBelowFirst, IsAscending, change_of}
 use Rattle.c5_rows.proofs.WriteLemmas.{first_below, change_of-gap}
-use Rattle.c5_primary.specs.Latest.{row_left, place_at, noted, IsLeftAt, LeadsToRows}
+use Rattle.c5_primary.specs.Latest.{row_kept, place_at, noted, IsLeftAt, LeadsToRows}
 
 -- ---- a row after writes
 
 -- what a change leaves, or else the row that was there
 abbrev left_or : Option Change → Option (List Cell) → Option (List Cell)
 left_or None row = row
-left_or (Some change) row = row_left (Some change)
+left_or (Some change) row = row_kept (Some change)
 
-get-after_change : (name : RowName) (change : Change) (state : State) (q : RowName) → get (after_change name change state) q ≡ cond (eq_by_cmp row_name_cmp q name) (row_left (Some change)) (get state q)
+get-after_change : (name : RowName) (change : Change) (state : State) (q : RowName) → get (after_change name change state) q ≡ cond (eq_by_cmp row_name_cmp q name) (row_kept (Some change)) (get state q)
 get-after_change name (Put row) state q = get-insert row_name_cmp_total state name row q
 get-after_change name Gone state q = get-remove row_name_cmp_total state name q
 
@@ -51,8 +51,8 @@ get-after_writes (write ∷ writes) state q up =
     ∙ ap (left_or (change_of q writes)) (get-after_change write.name write.change state q)
     ∙ by (eq_by_cmp row_name_cmp q write.name) refl
   where
-    by : (b : Bool) → eq_by_cmp row_name_cmp q write.name ≡ b → left_or (change_of q writes) (cond b (row_left (Some write.change)) (get state q)) ≡ left_or (cond b (Some write.change) (change_of q writes)) (get state q)
-    by true e = ap (λ o. left_or o (row_left (Some write.change))) (no-other q write.name writes (equal-from q write.name e) up.0 up.1)
+    by : (b : Bool) → eq_by_cmp row_name_cmp q write.name ≡ b → left_or (change_of q writes) (cond b (row_kept (Some write.change)) (get state q)) ≡ left_or (cond b (Some write.change) (change_of q writes)) (get state q)
+    by true e = ap (λ o. left_or o (row_kept (Some write.change))) (no-other q write.name writes (equal-from q write.name e) up.0 up.1)
     by false e = refl
 
 -- ---- what is noted
@@ -89,7 +89,7 @@ at_end [] x = refl
 at_end (z ∷ xs) x = at_end xs x
 
 abbrev Leaves : RowName → Option (List Cell) → Option Txn → Type 0
-Leaves q row found = MatchOption found ⊥ (λ t. row ≡ row_left (change_of q t.writes))
+Leaves q row found = MatchOption found ⊥ (λ t. row ≡ row_kept (change_of q t.writes))
 
 -- a row that the new transaction leaves alone
 kept : (start : State) (txns : List Txn) (txn : Txn) (q : RowName) (place : Option ℕ) → IsLeftAt start txns q place → get (after_txns (txns ++ txn ∷ []) start) q ≡ get (after_txns txns start) q → IsLeftAt start (txns ++ txn ∷ []) q place
@@ -111,7 +111,7 @@ leads-further start txns txn old new up leads is q =
     by None e = kept start txns txn q (place_at old q) (leads q) (after ∙ ap (λ c. left_or c (get (after_txns txns start) q)) e)
     by (Some change) e =
         subst (Leaves q (get (after_txns (txns ++ txn ∷ []) start) q)) (sym (at_end txns txn))
-        (after ∙ ap (λ c. left_or c (get (after_txns txns start) q)) e ∙ sym (ap row_left e))
+        (after ∙ ap (λ c. left_or c (get (after_txns txns start) q)) e ∙ sym (ap row_kept e))
 
 pub leads-first : (start : State) (txns : List Txn) (places : List (RowName × ℕ)) → txns ≡ [] → places ≡ [] → LeadsToRows start txns places
 leads-first start txns places none nowhere = rw (none, nowhere) (λ q. refl)
@@ -125,5 +125,5 @@ place-within start txns q place left = by (slice_get txns place) refl left
     by None at h = absurd h
     by (Some t) at h = slice_get_within txns place t at
 
-pub row-there : (start : State) (txns : List Txn) (q : RowName) (place : ℕ) (t : Txn) → IsLeftAt start txns q (Some place) → slice_get txns place ≡ Some t → row_left (change_of q t.writes) ≡ get (after_txns txns start) q
+pub row-there : (start : State) (txns : List Txn) (q : RowName) (place : ℕ) (t : Txn) → IsLeftAt start txns q (Some place) → slice_get txns place ≡ Some t → row_kept (change_of q t.writes) ≡ get (after_txns txns start) q
 row-there start txns q place t left at = sym (subst (Leaves q (get (after_txns txns start) q)) at left)

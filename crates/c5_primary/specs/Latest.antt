@@ -15,10 +15,10 @@ use Rattle.c5_rows.specs.State.{State, after_txns}
 use Rattle.c5_rows.specs.Writes.{change_of}
 
 -- the row that a change leaves
-abbrev pub row_left : Option Change → Option (List Cell)
-row_left None = None
-row_left (Some (Put row)) = Some row
-row_left (Some Gone) = None
+abbrev pub row_kept : Option Change → Option (List Cell)
+row_kept None = None
+row_kept (Some (Put row)) = Some row
+row_kept (Some Gone) = None
 
 -- the place that is noted for a row
 abbrev pub place_at : List (RowName × ℕ) → RowName → Option ℕ
@@ -35,7 +35,7 @@ abbrev pub IsLeftAt : State → List Txn → RowName → Option ℕ → Type 0
 IsLeftAt start txns name None = get (after_txns txns start) name ≡ get start name
 IsLeftAt start txns name (Some place) =
     MatchOption (slice_get txns place) ⊥
-    (λ txn. get (after_txns txns start) name ≡ row_left (change_of name txn.writes))
+    (λ txn. get (after_txns txns start) name ≡ row_kept (change_of name txn.writes))
 
 -- the places lead to every row after the transactions
 abbrev pub LeadsToRows : State → List Txn → List (RowName × ℕ) → Type 0

@@ -28,8 +28,8 @@ row_names txns = flat_map (λ txn. map (λ write. write.name) txn.writes) txns
 abbrev pub total_rows : List Txn → ℕ
 total_rows txns = distinct_count (eq_by_cmp row_name_cmp) (row_names txns)
 
--- the bytes of the longest log of a script within its limits: 421 of a header, 304 of each write, 21 of
--- each commit mark and 9 of the end mark
+-- the bytes of the longest log of a script within its limits: 421 of a header, 304 of each write,
+-- 21 of each commit mark and 9 of the end mark
 abbrev pub max_run_log_bytes : ℕ
 max_run_log_bytes = 421 + 304 * max_writes + 21 * max_transactions + 9
 

@@ -7,7 +7,7 @@ ghost use Rattle.std.specs.BTreeMap.{IsOrdered};
 ghost use Rattle.c5_rows.specs.declared.writes.RowName.{RowName as Name};
 ghost use Rattle.c5_rows.specs.Order.{row_name_cmp};
 ghost use Rattle.c5_rows.specs.State.{after_txns};
-ghost use Rattle.c5_primary.specs.Latest.{row_left, noted, place_at, LeadsToRows};
+ghost use Rattle.c5_primary.specs.Latest.{row_kept, noted, place_at, LeadsToRows};
 
 use c5_eval::LookUpRows;
 use c5_rows::{Change, NoMemory, Row, RowName, Rows, Txn, Write};
@@ -15,8 +15,8 @@ use std::collections::BTreeMap;
 use std::marker::Model;
 
 // The row that a change leaves.
-fn row_left<'a>(change: Option<&'a Change>) -> Option<&'a Row>
-    ensures { option_copied result ≡ row_left (option_copied change.entry) }
+fn row_kept<'a>(change: Option<&'a Change>) -> Option<&'a Row>
+    ensures { option_copied result ≡ row_kept (option_copied change.entry) }
 {
     match change {
         Some(Change::Put(row)) => Some(row),
@@ -63,14 +63,14 @@ fn row_after<'a>(
     ensures { option_copied result ≡ get (after_txns txns.now start.now) name.now }
 {
     match places.get(name) {
-        Some(place) => row_left(txns[*place as usize].writes.find(name)),
+        Some(place) => row_kept(txns[*place as usize].writes.find(name)),
         None => start.get(name),
     }
 }
 
 impl<'a> LatestRows<'a> {
-    /// The rows after these transactions. A row that has a place was last written by the transaction
-    /// there.
+    /// The rows after these transactions. A row that has a place was last written by the
+    /// transaction there.
     pub fn new(start: &'a Rows, txns: &'a [Txn], places: &'a BTreeMap<RowName, u32>) -> Self
         requires { LeadsToRows start.now txns.now places.now.entries }
         ensures { result ≡ after_txns txns.now start.now }

@@ -62,9 +62,10 @@ fn txns_in_order(alloc: Global, bodies: &[Body], start: &Rows) -> Result<Vec<Txn
 pub fn run_serial(alloc: Global, script: &Script) -> Result<Vec<Txn>, NoMemory>
     requires { length script.now.bodies ≤ max_transactions }
     ensures exact { let bodies = script.now.bodies in
-        IfOk result (λ txns.
-        txns.items ≡ serial_txns bodies (empty {R = row_name_cmp}) (range_with_len 0 (length bodies))) }
-    ensures serial { IfOk result (λ txns. SerialRun script.now.bodies (empty {R = row_name_cmp}) txns.items) }
+        IfOk result (λ txns. txns.items
+        ≡ serial_txns bodies (empty {R = row_name_cmp}) (range_with_len 0 (length bodies))) }
+    ensures serial { IfOk result
+        (λ txns. SerialRun script.now.bodies (empty {R = row_name_cmp}) txns.items) }
 {
     let start = Rows::new(alloc);
     let txns = txns_in_order(alloc, script.bodies(), &start)?;

@@ -20,7 +20,8 @@ fn name_of(bytes: &[u8]) -> Result<RowName, Fail>
 }
 
 fn one_table(name: &[u8], types: &[CellType]) -> Result<Schema, Fail>
-    ensures { IfOk result (λ tables. MatchOption (slice_get tables 0) ⊥ (λ table. table.columns ≡ types.now)) }
+    ensures { IfOk result
+        (λ tables. MatchOption (slice_get tables 0) ⊥ (λ table. table.columns ≡ types.now)) }
 {
     Ok(Schema::one(TableDef {
         name: TableName::new(name)?,

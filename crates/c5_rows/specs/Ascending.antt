@@ -9,4 +9,5 @@ IsBelowFirstBy Below name bound (x ∷ xs) = Below bound (name x)
 -- the name of each element is above that of the one before it
 abbrev pub IsAscendingBy : {X K : Type 0} → (K → K → Type 0) → (X → K) → List X → Type 0
 IsAscendingBy Below name [] = Unit {0}
-IsAscendingBy Below name (x ∷ xs) = IsBelowFirstBy Below name (name x) xs × IsAscendingBy Below name xs
+IsAscendingBy Below name (x ∷ xs) = IsBelowFirstBy Below name (name x) xs
+    × IsAscendingBy Below name xs

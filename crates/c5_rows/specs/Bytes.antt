@@ -1,5 +1,6 @@
 -- Which bytes keys, texts and names of tables have.
-use Rattle.std.specs.Prelude.{◌≤◌, ◌&&◌, ◌||◌, ◌==◌, ℕ, Bool, List, length, not, nat_le, IsTrue, Result, Ok, Err, if◌then◌else◌}
+use Rattle.std.specs.Prelude.{◌≤◌, ◌&&◌, ◌||◌, ◌==◌, ℕ, Bool, List, length, not, nat_le, IsTrue}
+use Rattle.std.specs.Prelude.{Result, Ok, Err, if◌then◌else◌}
 use Rattle.std.specs.List.{list_all}
 use Rattle.c5_rows.specs.declared.names.Bad.{Bad}
 use Rattle.c5_rows.specs.declared.names.Bad.TheVariants.{Length, Byte}

@@ -1,7 +1,8 @@
 -- Cells and rows.
 use Rattle.std.specs.Coded.{Coded, code_by, coded⊎, coded_ℤ, coded_list, coded_ℕ}
 use Rattle.std.proofs.Common.{inl, inr, refl}
-use Rattle.std.specs.Prelude.{ℕ, ℤ, ◌≡◌, ◌⊎◌, ◌&&◌, List, length, nat_le, Option, Some, None, if◌then◌else◌}
+use Rattle.std.specs.Prelude.{ℕ, ℤ, ◌≡◌, ◌⊎◌, ◌&&◌, List, length, nat_le, Option, Some, None}
+use Rattle.std.specs.Prelude.{if◌then◌else◌}
 use Rattle.c5_rows.specs.Sizes.{max_columns}
 use Rattle.c5_rows.specs.declared.cells.CellType.{CellType}
 use Rattle.c5_rows.specs.declared.cells.CellType.TheVariants as types
@@ -15,7 +16,8 @@ type_of (Txt bytes) = types.Text
 
 -- a list with as many items as a row may have cells, or nothing
 abbrev pub row_or_none : {X : Type 0} → List X → Option (List X)
-row_or_none items = if nat_le 1 (length items) && nat_le (length items) max_columns then Some items else None
+row_or_none items = if nat_le 1 (length items) && nat_le (length items) max_columns then Some items
+    else None
 
 -- ---- how proofs tell cells apart
 
@@ -32,4 +34,5 @@ cell_of_parts-cell_parts (Int n) = refl
 cell_of_parts-cell_parts (Txt bytes) = refl
 
 abbrev pub coded_cell : Coded Cell
-coded_cell = code_by (ℤ ⊎ List ℕ) (coded⊎ coded_ℤ (coded_list coded_ℕ)) cell_parts cell_of_parts cell_of_parts-cell_parts
+coded_cell = code_by (ℤ ⊎ List ℕ)
+    (coded⊎ coded_ℤ (coded_list coded_ℕ)) cell_parts cell_of_parts cell_of_parts-cell_parts

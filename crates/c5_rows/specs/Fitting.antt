@@ -14,7 +14,8 @@ RowFitsColumns row columns = map type_of row ≡ columns
 
 -- there is a table of this number, and the cells have the types of its columns
 abbrev pub RowFits : List TableDef → ℕ → List Cell → Type 0
-RowFits tables number row = MatchOption (slice_get tables number) ⊥ (λ table. RowFitsColumns row table.columns)
+RowFits tables number row = MatchOption (slice_get tables number) ⊥
+    (λ table. RowFitsColumns row table.columns)
 
 -- the row of a put fits the columns; a gone fits any
 abbrev pub FitsColumns : Change → List CellType → Type 0
@@ -23,4 +24,5 @@ FitsColumns Gone columns = Unit {0}
 
 -- the table of the write exists, and its columns take the change
 abbrev pub FitsTables : List TableDef → Write → Type 0
-FitsTables tables write = MatchOption (slice_get tables write.name.table) ⊥ (λ table. FitsColumns write.change table.columns)
+FitsTables tables write = MatchOption (slice_get tables write.name.table) ⊥
+    (λ table. FitsColumns write.change table.columns)

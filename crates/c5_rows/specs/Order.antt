@@ -17,11 +17,15 @@ row_name_cmp a b = ordering_then (nat_cmp a.table b.table) (slice_cmp nat_cmp a.
 
 -- as a number and bytes
 abbrev pub coded_row_name : Coded RowName
-coded_row_name = code_by (ℕ × List ℕ) (coded× coded_ℕ (coded_list coded_ℕ)) (λ n. (n.table, n.key)) (λ p. record { table = p.0; key = p.1 }) (λ _. refl)
+coded_row_name = code_by (ℕ × List ℕ) (coded× coded_ℕ (coded_list coded_ℕ)) (λ n. (n.table, n.key))
+    (λ p. record { table = p.0; key = p.1 }) (λ _. refl)
 
 pub row_name_cmp_total : IsTotalOrder row_name_cmp
-row_name_cmp_total = then_total (on_total (λ n. n.table) nat_cmp_total) (on_total (λ n. n.key) nat_list_cmp_total)
+row_name_cmp_total = then_total (on_total (λ n. n.table) nat_cmp_total)
+    (on_total (λ n. n.key) nat_list_cmp_total)
 
 -- names that compare alike are one
 pub row_name_cmp_exact : (a b : RowName) → row_name_cmp a b ≡ Equal → a ≡ b
-row_name_cmp_exact a b h = ap (λ (p : ℕ × List ℕ). record { table = p.0; key = p.1 }) (exact_pairs nat_cmp (slice_cmp nat_cmp) exact_unsigned (slice_cmp-IsAntisymmetric nat_cmp-IsAntisymmetric) (a.table, a.key) (b.table, b.key) h)
+row_name_cmp_exact a b h = ap (λ (p : ℕ × List ℕ). record { table = p.0; key = p.1 })
+    (exact_pairs nat_cmp (slice_cmp nat_cmp) exact_unsigned
+    (slice_cmp-IsAntisymmetric nat_cmp-IsAntisymmetric) (a.table, a.key) (b.table, b.key) h)

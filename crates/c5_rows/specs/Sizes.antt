@@ -74,3 +74,21 @@ max_workers = 16
 
 abbrev pub max_sessions : ℕ
 max_sessions = 16
+
+-- ---- threads
+
+-- threads that run a script
+abbrev pub max_threads : ℕ
+max_threads = 16
+
+-- buckets of the index of a log's rows: the least power of two that is at least twice the writes
+abbrev pub max_buckets : ℕ
+max_buckets = 524288
+
+-- numbers that a worker puts off: its list is reserved at once
+abbrev pub max_put_off : ℕ
+max_put_off = 64
+
+-- passes of a turn slot
+abbrev pub max_passes : ℕ
+max_passes = 64

@@ -22,7 +22,8 @@ after_change name Gone state = remove state name
 -- one write after the other
 abbrev pub after_writes : List Write → State → State
 after_writes [] state = state
-after_writes (write ∷ writes) state = after_writes writes (after_change write.name write.change state)
+after_writes (write ∷ writes) state =
+    after_writes writes (after_change write.name write.change state)
 
 -- one whole transaction after the other
 abbrev pub after_txns : List Txn → State → State

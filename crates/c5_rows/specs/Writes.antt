@@ -24,9 +24,12 @@ IsAscending = IsAscendingBy IsNameBelow (λ write. write.name)
 -- the change of the row of this name
 abbrev pub change_of : RowName → List Write → Option Change
 change_of name [] = None
-change_of name (write ∷ writes) = if is_eq (row_name_cmp name write.name) then Some write.change else change_of name writes
+change_of name (write ∷ writes) = if is_eq (row_name_cmp name write.name) then Some write.change
+    else change_of name writes
 
 -- a write in its place among others that ascend; it replaces one of its name
 abbrev pub put_write : Write → List Write → List Write
 put_write new [] = new ∷ []
-put_write new (write ∷ writes) = by_order (row_name_cmp new.name write.name) (new ∷ write ∷ writes) (new ∷ writes) (write ∷ put_write new writes)
+put_write new (write ∷ writes) =
+    by_order (row_name_cmp new.name write.name) (new ∷ write ∷ writes) (new ∷ writes)
+    (write ∷ put_write new writes)

@@ -30,7 +30,8 @@ fn have_types(cells: &[Cell], types: &[CellType]) -> bool
 }
 
 impl Schema {
-    /// Whether the table of the write exists and, for a put, its cells have the types of the columns.
+    /// Whether the table of the write exists and, for a put, its cells have the types of the
+    /// columns.
     pub fn fits(&self, write: &Write) -> bool
         ensures { IsTrue result ↔ FitsTables self.now write.now }
     {

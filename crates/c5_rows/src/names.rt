@@ -2,7 +2,8 @@
 
 ghost use Rattle.std.specs.Prelude.{◌≡◌, length};
 ghost use Rattle.std.specs.List.{list_all};
-ghost use Rattle.c5_rows.specs.Bytes.{is_key_byte, is_text_byte, is_name_byte, IsKey, IsText, IsTableName, checked_bytes};
+ghost use Rattle.c5_rows.specs.Bytes.{is_key_byte, is_text_byte, is_name_byte, IsKey, IsText};
+ghost use Rattle.c5_rows.specs.Bytes.{IsTableName, checked_bytes};
 ghost use Rattle.c5_rows.specs.Sizes.{max_key_bytes, max_text_bytes, max_name_bytes};
 
 use crate::padded::{Blank, Padded};

@@ -40,7 +40,10 @@ impl<T: Blank, const N: usize> Model for Padded<T, N> {
 
     ghost invariant = { λ s. IsPadded T.blank_value N s.len s.items };
 
-    ghost inverse = { λ items. record { items = padded T.blank_value N items; len = length items } };
+    ghost inverse = { λ items. record {
+      items = padded T.blank_value N items;
+      len = length items;
+    } };
 
     ghost inverse_ok = { λ a h i. record {
       items = padded-take T.blank_value N a.len a.items h i;

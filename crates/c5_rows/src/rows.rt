@@ -141,7 +141,8 @@ fn set(
     ensures ordered { IsOrdered row_name_cmp rows.new }
     ensures ok { OnOk result
         (map.from_entries {R = row_name_cmp} (rows_held (λ block. block.value) rows.new.entries)
-        ≡ map.insert (map.from_entries (rows_held (λ block. block.value) rows.old.entries)) name.now row.now) }
+        ≡ map.insert (map.from_entries (rows_held (λ block. block.value) rows.old.entries))
+        name.now row.now) }
     ensures err { OnErr result (IsUnchanged rows.old rows.new) }
 {
     match rows.get_mut(name) {

@@ -1,4 +1,5 @@
-//! The limits of the formats. `specs/Sizes.antt` has the same numbers for contracts, each with its reason.
+//! The limits of the formats. `specs/Sizes.antt` has the same numbers for contracts, each with its
+//! reason.
 
 /// Tables of a schema.
 pub const MAX_TABLES: usize = 16;
@@ -38,3 +39,7 @@ pub const MAX_TURN_WORDS: usize = 65_536;
 pub const MAX_WORKERS: u32 = 16;
 /// Sessions, which are numbered from 1.
 pub const MAX_SESSIONS: u32 = 16;
+/// Numbers that a worker puts off.
+pub const MAX_PUT_OFF: usize = 64;
+/// Threads that run a script.
+pub const MAX_THREADS: u32 = 16;

@@ -1,6 +1,7 @@
 //! Tables, and the schemas that they make.
 
-ghost use Rattle.std.specs.Prelude.{◌≡◌, ◌≤◌, ◌<◌, ◌++◌, ◌∷◌, ◌↔◌, [], None, Some, length, option_map, IsTrue, IfErr, OnOk, OnErr};
+ghost use Rattle.std.specs.Prelude.{◌≡◌, ◌≤◌, ◌<◌, ◌++◌, ◌∷◌, ◌↔◌, [], None, Some, length};
+ghost use Rattle.std.specs.Prelude.{option_map, IsTrue, IfErr, OnOk, OnErr};
 ghost use Rattle.c5_rows.specs.Cells.{row_or_none};
 ghost use Rattle.c5_rows.specs.Sizes.{max_columns, max_tables};
 ghost use Rattle.c5_rows.specs.Tables.{table_number};

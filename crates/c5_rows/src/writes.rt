@@ -1,6 +1,7 @@
 //! Names of rows, writes and transactions.
 
-ghost use Rattle.std.specs.Prelude.{◌≡◌, ◌<◌, ◌≤◌, [], OnOk, OnErr, IfOk, insert, length, MatchResult};
+ghost use Rattle.std.specs.Prelude.{◌≡◌, ◌<◌, ◌≤◌, [], OnOk, OnErr, IfOk, insert, length};
+ghost use Rattle.std.specs.Prelude.{MatchResult};
 ghost use Rattle.std.specs.Option.{option_copied};
 
 use crate::cells::Row;
@@ -63,7 +64,8 @@ fn place_of(writes: &[Write], name: &RowName) -> Result<usize, usize>
     ensures bound { MatchResult result (λ i. i < length writes.now) (λ i. i ≤ length writes.now) }
     ensures place { MatchResult result
         (HoldsAt (λ w. row_name_cmp w.name name.now ≡ Ordering.Equal) writes.now)
-        (IsPartitionPoint (λ w. row_name_cmp w.name name.now ≡ Ordering.Less) (λ w. row_name_cmp w.name name.now ≡ Ordering.Greater) writes.now) }
+        (IsPartitionPoint (λ w. row_name_cmp w.name name.now ≡ Ordering.Less)
+        (λ w. row_name_cmp w.name name.now ≡ Ordering.Greater) writes.now) }
 {
     let Some(last) = writes.last() else {
         return Err(0);
@@ -126,7 +128,8 @@ impl Writes {
         }
     }
 
-    /// No writes. `count` is a hint: how many writes are expected. `set` may run out of memory all the same.
+    /// No writes. `count` is a hint: how many writes are expected. `set` may run out of memory all
+    /// the same.
     pub fn with_capacity(alloc: Global, count: usize) -> Result<Self, NoMemory>
         ensures { IfOk result (λ writes. writes ≡ []) }
     {
@@ -135,7 +138,8 @@ impl Writes {
         })
     }
 
-    /// Replaces the write of that name, or adds one in its place. After `NoMemory` nothing has changed.
+    /// Replaces the write of that name, or adds one in its place. After `NoMemory` nothing has
+    /// changed.
     pub fn set(&mut self, name: RowName, change: Change) -> Result<(), NoMemory>
         ensures ok { OnOk result
             (self.new ≡ put_write (record { name = name; change = change }) self.old) }

@@ -6,3 +6,4 @@ pub mod Front
 pub mod Parsing
 pub mod Forms
 pub mod Rows
+pub mod Slots

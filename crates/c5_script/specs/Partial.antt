@@ -1,5 +1,6 @@
 -- A script that is read in part, as it is held.
-use Rattle.std.specs.Prelude.{◌≤◌, ◌<◌, ℕ, List, [], ◌∷◌, ◌++◌, length, Option, Some, None, Result, Ok}
+use Rattle.std.specs.Prelude.{◌≤◌, ◌<◌, ℕ, List, [], ◌∷◌, ◌++◌, length, Option, Some, None, Result}
+use Rattle.std.specs.Prelude.{Ok}
 use Rattle.c5_rows.specs.Sizes.{max_sessions, max_reads}
 use Rattle.c5_definitions.specs.declared.script.ReadLine.{ReadLine}
 use Rattle.c5_definitions.specs.declared.script.TurnWord.{TurnWord}
@@ -20,10 +21,19 @@ block_of (Read read) = in_read read.session read.lines
 
 -- the script is there once a table stands
 abbrev pub script_so_far : Option ScriptParts → OpenBlock → ScriptSoFar
-script_so_far None block = record { tables = []; bodies = []; reads = []; turns = []; block = block_of block }
-script_so_far (Some script) block = record { tables = script.tables; bodies = script.bodies; reads = script.reads; turns = script.turns; block = block_of block }
+script_so_far None block =
+    record { tables = []; bodies = []; reads = []; turns = []; block = block_of block }
+script_so_far (Some script) block =
+    record {
+      tables = script.tables;
+      bodies = script.bodies;
+      reads = script.reads;
+      turns = script.turns;
+      block = block_of block;
+    }
 
--- an open read block can be closed: its session is one, it fits the tables, and there is room for it
+-- an open read block can be closed: its session is one, it fits the tables, and there is room for
+-- it
 pub record FitsAsRead (script : ScriptParts) (session : ℕ) (lines : List ReadLine) : Type 0 where
   pub session_some : 1 ≤ session
   pub session_few : session ≤ max_sessions
@@ -39,8 +49,15 @@ BlockFits (Some script) (Opened session) = FitsAsRead script session []
 BlockFits (Some script) (Read read) = FitsAsRead script read.session read.lines
 
 -- the script with more turn words
-abbrev pub with_turns : ScriptParts → Result (List TurnWord) ScriptKind → Result ScriptParts ScriptKind
-with_turns script read = read >>= λ new. Ok (record { tables = script.tables; bodies = script.bodies; reads = script.reads; turns = script.turns ++ new })
+abbrev pub with_turns : ScriptParts → Result (List TurnWord) ScriptKind
+    → Result ScriptParts ScriptKind
+with_turns script read = read >>= λ new. Ok
+    (record {
+      tables = script.tables;
+      bodies = script.bodies;
+      reads = script.reads;
+      turns = script.turns ++ new;
+    })
 
 -- the transaction of a body with one statement more
 abbrev pub with_statement : List Statement → Result Statement ScriptKind → Result Block ScriptKind

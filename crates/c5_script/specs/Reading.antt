@@ -10,6 +10,7 @@ with_words front (Ok words) = Ok (front ++ words)
 with_words front (Err kind) = Err kind
 
 -- these are the word that was found and the words of the bytes behind it; or they have the fault
-abbrev pub FindsWord : {X : Type 0} → (X → Word) → (X → List ℕ) → Result (List Word) ScriptKind → Result X ScriptKind → Type 0
+abbrev pub FindsWord : {X : Type 0} → (X → Word) → (X → List ℕ) → Result (List Word) ScriptKind
+    → Result X ScriptKind → Type 0
 FindsWord word behind words (Ok x) = words ≡ with_word (word x) (words_at between (behind x))
 FindsWord word behind words (Err kind) = words ≡ Err kind

@@ -64,7 +64,9 @@ impl ReadBlock {
     /// Adds a line at the end. After `NoMemory` nothing has changed.
     pub fn push(&mut self, line: ReadLine) -> Result<(), NoMemory>
         requires room { length self.old.lines < max_read_lines }
-        ensures ok { OnOk result (self.new ≡ record { session = self.old.session; lines = self.old.lines ++ line ∷ [] }) }
+        ensures ok { OnOk result
+            (self.new
+            ≡ record { session = self.old.session; lines = self.old.lines ++ line ∷ [] }) }
         ensures err { OnErr result (self.new ≡ self.old) }
     {
         know_line(&line);

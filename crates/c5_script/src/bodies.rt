@@ -103,7 +103,8 @@ impl Body {
         ensures err { OnErr result (self.new ≡ self.old) }
     {
         know_parts(&statement);
-        // Room is made first: a push that may fail gives the statement back, and each way costs a copy of it.
+        // Room is made first: a push that may fail gives the statement back, and each way costs a
+        // copy of it.
         self.statements.reserve(1)?;
         self.statements.push_reserved(statement);
         Ok(())

@@ -17,7 +17,9 @@ use c5_definitions::ScriptKind;
 #[tactic(auto, unfolding(c5_definitions::specs::Statements::end_line))]
 fn close_txn(script: &mut Script, body: Body, words: &[Word]) -> Result<(), LineError>
     requires { BlockFits (Some script.old) (OpenBlock.Txn body) }
-    ensures { StepsTo (λ _. script_so_far (Some script.new) OpenBlock.Outside) result (end_line (block_of (OpenBlock.Txn body)) (script_so_far (Some script.old) (OpenBlock.Txn body)) (held_words words.now)) }
+    ensures { StepsTo (λ _. script_so_far (Some script.new) OpenBlock.Outside) result
+        (end_line (block_of (OpenBlock.Txn body))
+        (script_so_far (Some script.old) (OpenBlock.Txn body)) (held_words words.now)) }
 {
     if !words.is_empty() {
         return Err(LineError::Fault(ScriptKind::Count));
@@ -29,7 +31,9 @@ fn close_txn(script: &mut Script, body: Body, words: &[Word]) -> Result<(), Line
 #[tactic(auto, unfolding(c5_definitions::specs::Statements::end_line))]
 fn close_read(script: &mut Script, read: ReadBlock, words: &[Word]) -> Result<(), LineError>
     requires { BlockFits (Some script.old) (OpenBlock.Read read) }
-    ensures { StepsTo (λ _. script_so_far (Some script.new) OpenBlock.Outside) result (end_line (block_of (OpenBlock.Read read)) (script_so_far (Some script.old) (OpenBlock.Read read)) (held_words words.now)) }
+    ensures { StepsTo (λ _. script_so_far (Some script.new) OpenBlock.Outside) result
+        (end_line (block_of (OpenBlock.Read read))
+        (script_so_far (Some script.old) (OpenBlock.Read read)) (held_words words.now)) }
 {
     if !words.is_empty() {
         return Err(LineError::Fault(ScriptKind::Count));
@@ -42,7 +46,8 @@ fn close_read(script: &mut Script, read: ReadBlock, words: &[Word]) -> Result<()
 #[tactic(auto, unfolding(c5_definitions::specs::Statements::end_line))]
 pub(crate) fn close(script: &mut Script, block: OpenBlock, words: &[Word]) -> Result<(), LineError>
     requires { BlockFits (Some script.old) block }
-    ensures { StepsTo (λ _. script_so_far (Some script.new) OpenBlock.Outside) result (end_line (block_of block) (script_so_far (Some script.old) block) (held_words words.now)) }
+    ensures { StepsTo (λ _. script_so_far (Some script.new) OpenBlock.Outside) result
+        (end_line (block_of block) (script_so_far (Some script.old) block) (held_words words.now)) }
 {
     match block {
         OpenBlock::Outside => Err(LineError::Fault(ScriptKind::Word)),

@@ -4,6 +4,7 @@ ghost use Rattle.std.specs.Prelude.{◌≡◌, ◌≤◌, Ok, length};
 ghost use Rattle.c5_definitions.specs.Script.{after_front_numbered, front_of};
 ghost use Rattle.c5_script.specs.Front.{front_line_of};
 ghost use Rattle.c5_script.specs.Parsing.{ParsesTo};
+ghost use Rattle.c5_rows.specs.Sizes.{max_log_bytes};
 
 use crate::lines::first_line;
 use crate::parsing::ParseFault;
@@ -29,7 +30,8 @@ fn take_front_line<'a>(
     number: u32,
     line: &'a [u8],
 ) -> Result<Taken, ParseFault>
-    ensures step { ParsesTo (front_line_of script.new) result (after_front_numbered number script.old line.now) }
+    ensures step { ParsesTo (front_line_of script.new) result
+        (after_front_numbered number script.old line.now) }
     ensures log { result ≡ Ok Taken.Log → script.new ≡ script.old }
 {
     if let Err(error) = words_in(line, words) {
@@ -41,10 +43,11 @@ fn take_front_line<'a>(
     }
 }
 
-/// Reads the script up to the first line that is accepted as a `log` line, and gives the bytes behind that.
+/// Reads the script up to the first line that is accepted as a `log` line, and gives the bytes
+/// behind that.
 /// `Bad` has the first fault of the bytes, which comes exactly where they have one.
 pub fn parse_front(alloc: Global, bytes: &[u8]) -> Result<Front<'_>, ParseFault>
-    requires { length bytes.now ≤ 88080384 }
+    requires { length bytes.now ≤ max_log_bytes }
     ensures { ParsesTo (λ front. (front.script, front.rest.now)) result (front_of bytes.now) }
 {
     let mut script = PartialScript::new(alloc);

@@ -1,11 +1,15 @@
 //! Lines outside blocks.
 
-ghost use Rattle.std.specs.Prelude.{◌+◌, ◌≡◌, ◌≤◌, ◌<◌, ◌++◌, ◌∷◌, [], None, Some, IsTrue, length, IfOk, OnOk};
-ghost use Rattle.c5_rows.specs.Sizes.{max_columns, max_tables, max_sessions, max_reads, max_statements, max_turn_words};
+ghost use Rattle.std.specs.Prelude.{◌+◌, ◌≡◌, ◌≤◌, ◌<◌, ◌++◌, ◌∷◌, [], None, Some, IsTrue, length};
+ghost use Rattle.std.specs.Prelude.{IfOk, OnOk};
+ghost use Rattle.c5_rows.specs.Sizes.{max_columns, max_tables, max_sessions, max_reads};
+ghost use Rattle.c5_rows.specs.Sizes.{max_statements, max_turn_words};
 ghost use Rattle.c5_rows.specs.Tables.{table_number};
 ghost use Rattle.c5_definitions.specs.ScriptSoFar.{in_txn, in_read, is_heading};
 ghost use Rattle.c5_definitions.specs.Places.{turn_in, each_in};
-ghost use Rattle.c5_definitions.specs.Statements.{new_table, table_words, table_line, heading_line, outside_line, txn_words, read_words, read_line, turns_words, turns_line, standing_line};
+ghost use Rattle.c5_definitions.specs.Statements.{new_table, table_words, table_line, heading_line};
+ghost use Rattle.c5_definitions.specs.Statements.{outside_line, txn_words, read_words, read_line};
+ghost use Rattle.c5_definitions.specs.Statements.{turns_words, turns_line, standing_line};
 ghost use Rattle.c5_script.specs.Partial.{script_so_far, with_turns, BlockFits};
 ghost use Rattle.c5_script.specs.Taking.{StepsTo};
 ghost use Rattle.c5_definitions.specs.Steps.{Gives};
@@ -78,7 +82,8 @@ fn check_txn(words: &[Word]) -> Result<(), ScriptKind>
 
 #[tactic(auto, unfolding(c5_definitions::specs::Statements::read_words))]
 fn read_of(words: &[Word]) -> Result<u32, ScriptKind>
-    ensures read { Gives (λ session. in_read session []) result (read_words (held_words words.now)) }
+    ensures read { Gives (λ session. in_read session []) result
+        (read_words (held_words words.now)) }
     ensures session { IfOk result (λ session. (1 ≤ session) × (session ≤ max_sessions)) }
 {
     match words {
@@ -90,7 +95,8 @@ fn read_of(words: &[Word]) -> Result<u32, ScriptKind>
 /// The session of a read block that a line opens behind `count` others.
 #[tactic(auto, unfolding(c5_definitions::specs::Statements::read_line))]
 pub(crate) fn new_read(count: usize, words: &[Word]) -> Result<u32, ScriptKind>
-    ensures read { Gives (λ session. in_read session []) result (read_line count (held_words words.now)) }
+    ensures read { Gives (λ session. in_read session []) result
+        (read_line count (held_words words.now)) }
     ensures session { IfOk result (λ session. (1 ≤ session) × (session ≤ max_sessions)) }
     ensures room { OnOk result (count < max_reads) }
 {
@@ -102,7 +108,8 @@ pub(crate) fn new_read(count: usize, words: &[Word]) -> Result<u32, ScriptKind>
 
 fn push_turns(script: &mut Script, words: &[Word]) -> Result<(), LineError>
     requires room { length script.old.turns + length words.now ≤ max_turn_words }
-    ensures { StepsTo (λ _. script.new) result (with_turns script.old (each_in turn_in (held_words words.now))) }
+    ensures { StepsTo (λ _. script.new) result
+        (with_turns script.old (each_in turn_in (held_words words.now))) }
 {
     for word in words {
         let turn = turn(*word)?;
@@ -114,7 +121,8 @@ fn push_turns(script: &mut Script, words: &[Word]) -> Result<(), LineError>
 #[tactic(auto, unfolding(c5_definitions::specs::Statements::turns_words))]
 fn turns_in(script: &mut Script, words: &[Word]) -> Result<(), LineError>
     requires room { length script.old.turns + length words.now ≤ max_turn_words }
-    ensures { StepsTo (λ _. script.new) result (with_turns script.old (turns_words (held_words words.now))) }
+    ensures { StepsTo (λ _. script.new) result
+        (with_turns script.old (turns_words (held_words words.now))) }
 {
     match words {
         [] => Err(LineError::Fault(ScriptKind::Count)),
@@ -125,7 +133,8 @@ fn turns_in(script: &mut Script, words: &[Word]) -> Result<(), LineError>
 /// Adds the words of a line to the schedule.
 #[tactic(auto, unfolding(c5_definitions::specs::Statements::turns_line))]
 pub(crate) fn add_turns(script: &mut Script, words: &[Word]) -> Result<(), LineError>
-    ensures { StepsTo (λ _. script.new) result (with_turns script.old (turns_line (length script.old.turns) (held_words words.now))) }
+    ensures { StepsTo (λ _. script.new) result
+        (with_turns script.old (turns_line (length script.old.turns) (held_words words.now))) }
 {
     if script.turns().len() + words.len() > MAX_TURN_WORDS {
         return Err(LineError::Fault(ScriptKind::Limit));
@@ -133,7 +142,8 @@ pub(crate) fn add_turns(script: &mut Script, words: &[Word]) -> Result<(), LineE
     turns_in(script, words)
 }
 
-// How many statements the transaction before has: a guess for the next one, which then has its memory at once.
+// How many statements the transaction before has: a guess for the next one, which then has its
+// memory at once.
 fn statements_before(script: &Script) -> usize
     ensures { result ≤ max_statements }
 {
@@ -153,7 +163,9 @@ pub(crate) fn add_standing(
     words: &[Word],
 ) -> Result<(), LineError>
     requires { block.old ≡ OpenBlock.Outside }
-    ensures step { StepsTo (λ _. script_so_far (Some script.new) block.new) result (standing_line (script_so_far (Some script.old) block.old) first.now (held_words words.now)) }
+    ensures step { StepsTo (λ _. script_so_far (Some script.new) block.new) result
+        (standing_line (script_so_far (Some script.old) block.old) first.now
+        (held_words words.now)) }
     ensures fits { BlockFits (Some script.new) block.new }
 {
     if first == b"txn".as_slice() {
@@ -199,8 +211,11 @@ fn is_heading(script: &Option<Script>) -> bool
 fn push_table(alloc: Global, script: &mut Option<Script>, table: TableDef)
     requires heading { IsTrue (is_heading (script_so_far script.old OpenBlock.Outside)) }
     requires room { length (script_so_far script.old OpenBlock.Outside).tables < max_tables }
-    requires new { table_number table.name (script_so_far script.old OpenBlock.Outside).tables ≡ None }
-    ensures { script_so_far script.new OpenBlock.Outside ≡ record (script_so_far script.old OpenBlock.Outside) { tables = (script_so_far script.old OpenBlock.Outside).tables ++ table ∷ [] } }
+    requires new { table_number table.name (script_so_far script.old OpenBlock.Outside).tables
+        ≡ None }
+    ensures { script_so_far script.new OpenBlock.Outside
+        ≡ record (script_so_far script.old OpenBlock.Outside)
+        { tables = (script_so_far script.old OpenBlock.Outside).tables ++ table ∷ [] } }
 {
     match script {
         Some(script) => script.push_table(table),
@@ -211,7 +226,8 @@ fn push_table(alloc: Global, script: &mut Option<Script>, table: TableDef)
 #[tactic(auto, unfolding(c5_definitions::specs::Statements::heading_line))]
 fn add_table(alloc: Global, script: &mut Option<Script>, words: &[Word]) -> Result<(), LineError>
     requires { IsTrue (is_heading (script_so_far script.old OpenBlock.Outside)) }
-    ensures { StepsTo (λ _. script_so_far script.new OpenBlock.Outside) result (heading_line (script_so_far script.old OpenBlock.Outside) (held_words words.now)) }
+    ensures { StepsTo (λ _. script_so_far script.new OpenBlock.Outside) result
+        (heading_line (script_so_far script.old OpenBlock.Outside) (held_words words.now)) }
 {
     let table = new_table(tables_of(script), words)?;
     push_table(alloc, script, table);
@@ -228,7 +244,9 @@ pub(crate) fn add_outside(
     words: &[Word],
 ) -> Result<(), LineError>
     requires { block.old ≡ OpenBlock.Outside }
-    ensures step { StepsTo (λ _. script_so_far script.new block.new) result (outside_line (script_so_far script.old OpenBlock.Outside) first.now (held_words words.now)) }
+    ensures step { StepsTo (λ _. script_so_far script.new block.new) result
+        (outside_line (script_so_far script.old OpenBlock.Outside) first.now
+        (held_words words.now)) }
     ensures fits { BlockFits script.new block.new }
 {
     if first == b"table".as_slice() && is_heading(script) {

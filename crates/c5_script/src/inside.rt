@@ -27,7 +27,8 @@ fn next_statement(
     words: &[Word],
 ) -> Result<(), LineError>
     requires { BodyFits script.now.tables body.old }
-    ensures step { StepsTo (λ _. in_txn body.new) result (inside_line (in_txn body.old) script.now.tables first.now (held_words words.now)) }
+    ensures step { StepsTo (λ _. in_txn body.new) result
+        (inside_line (in_txn body.old) script.now.tables first.now (held_words words.now)) }
     ensures fits { BodyFits script.now.tables body.new }
 {
     add_statement(body, script.schema().tables(), first, words)
@@ -42,7 +43,8 @@ fn first_question(
     words: &[Word],
 ) -> Result<ReadBlock, LineError>
     requires { FitsAsRead script.now session [] }
-    ensures step { StepsTo (λ read. in_read read.session read.lines) result (inside_line (in_read session []) script.now.tables first.now (held_words words.now)) }
+    ensures step { StepsTo (λ read. in_read read.session read.lines) result
+        (inside_line (in_read session []) script.now.tables first.now (held_words words.now)) }
     ensures fits { IfOk result (λ read. FitsAsRead script.now read.session read.lines) }
 {
     let line = question(script.schema().tables(), 0, first, words)?;
@@ -58,7 +60,9 @@ fn next_question(
     words: &[Word],
 ) -> Result<(), LineError>
     requires { FitsAsRead script.now read.old.session read.old.lines }
-    ensures step { StepsTo (λ _. in_read read.new.session read.new.lines) result (inside_line (in_read read.old.session read.old.lines) script.now.tables first.now (held_words words.now)) }
+    ensures step { StepsTo (λ _. in_read read.new.session read.new.lines) result
+        (inside_line (in_read read.old.session read.old.lines) script.now.tables first.now
+        (held_words words.now)) }
     ensures fits { FitsAsRead script.now read.new.session read.new.lines }
 {
     let count = read.lines().len();
@@ -77,7 +81,8 @@ pub(crate) fn add_line(
     words: &[Word],
 ) -> Result<(), LineError>
     requires { BlockFits (Some script.now) block.old }
-    ensures step { StepsTo (λ _. block_of block.new) result (inside_line (block_of block.old) script.now.tables first.now (held_words words.now)) }
+    ensures step { StepsTo (λ _. block_of block.new) result
+        (inside_line (block_of block.old) script.now.tables first.now (held_words words.now)) }
     ensures fits { BlockFits (Some script.now) block.new }
 {
     match block {

@@ -8,7 +8,9 @@ ghost use Rattle.c5_rows.specs.Sizes.{max_transactions};
 ghost use Rattle.c5_rows.specs.Order.{row_name_cmp};
 ghost use Rattle.c5_script.specs.Rows.{is_row};
 ghost use Rattle.c5_rows.specs.declared.writes.RowName.{RowName};
-ghost use Rattle.c5_definitions.specs.Limits.{written_name, written_names, write_statements, written_rows, excess_of};
+ghost use Rattle.c5_definitions.specs.Limits.{written_name, written_names, write_statements};
+ghost use Rattle.c5_definitions.specs.Limits.{written_rows, excess_of};
+ghost use Rattle.c5_script.specs.Slots.{slots};
 
 use crate::bodies::Body;
 use crate::script::Script;
@@ -60,7 +62,7 @@ const SLOTS: usize = 131_072;
 
 // Where the place of the name is kept.
 fn slot_of(name: &RowName) -> usize
-    ensures { result < 131072 }
+    ensures { result < slots }
 {
     let mut slot = name.table as usize;
     for byte in name.key.bytes() {
@@ -75,12 +77,14 @@ fn is_same(a: &RowName, b: &RowName) -> bool
     a == b
 }
 
-// Adds the name where it isn't held, and maybe where it is: `places` has places of some names that are held.
-// A row that is written often then stands few times among the names.
+// Adds the name where it isn't held, and maybe where it is: `places` has places of some names that
+// are held. A row that is written often then stands few times among the names.
 fn push_name(names: &mut Vec<RowName>, places: &mut [usize], name: RowName) -> Result<(), NoMemory>
-    requires { length places.old ≡ 131072 }
-    ensures same_length { length places.new ≡ 131072 }
-    ensures names { OnOk result ((q : RowName) → is_row names.new.items q ≡ (is_row names.old.items q || eq_by_cmp row_name_cmp q name)) }
+    requires { length places.old ≡ slots }
+    ensures same_length { length places.new ≡ slots }
+    ensures names { OnOk result
+        ((q : RowName) → is_row names.new.items q
+        ≡ (is_row names.old.items q || eq_by_cmp row_name_cmp q name)) }
 {
     let slot = slot_of(&name);
     let place = places[slot];
@@ -98,9 +102,11 @@ fn push_names(
     places: &mut [usize],
     statements: &[Statement],
 ) -> Result<(), NoMemory>
-    requires { length places.old ≡ 131072 }
-    ensures same_length { length places.new ≡ 131072 }
-    ensures names { OnOk result ((q : RowName) → is_row names.new.items q ≡ (is_row names.old.items q || is_row (filter_map written_name statements.now) q)) }
+    requires { length places.old ≡ slots }
+    ensures same_length { length places.new ≡ slots }
+    ensures names { OnOk result
+        ((q : RowName) → is_row names.new.items q
+        ≡ (is_row names.old.items q || is_row (filter_map written_name statements.now) q)) }
 {
     for statement in statements {
         if let Some(name) = written_by(statement) {
@@ -116,8 +122,9 @@ fn push_all_names(
     places: &mut [usize],
     bodies: &[Body],
 ) -> Result<(), NoMemory>
-    requires { length places.old ≡ 131072 }
-    ensures { OnOk result ((q : RowName) → is_row names.new.items q ≡ (is_row names.old.items q || is_row (written_names bodies.now) q)) }
+    requires { length places.old ≡ slots }
+    ensures { OnOk result ((q : RowName) → is_row names.new.items q
+        ≡ (is_row names.old.items q || is_row (written_names bodies.now) q)) }
 {
     for body in bodies {
         push_names(names, places, body.statements())?;
@@ -127,7 +134,8 @@ fn push_all_names(
 
 // The names of the rows that the bodies write with `count` statements.
 fn names_in(alloc: Global, bodies: &[Body], count: usize) -> Result<Vec<RowName>, NoMemory>
-    ensures { IfOk result (λ names. (q : RowName) → is_row names.items q ≡ is_row (written_names bodies.now) q) }
+    ensures { IfOk result (λ names. (q : RowName)
+        → is_row names.items q ≡ is_row (written_names bodies.now) q) }
 {
     let mut names = Vec::with_capacity(alloc, count)?;
     let mut places = vec![in alloc; 0; SLOTS]?;
@@ -137,7 +145,8 @@ fn names_in(alloc: Global, bodies: &[Body], count: usize) -> Result<Vec<RowName>
 
 // How many different names there are, here and in each list that has the same ones.
 fn different(names: Vec<RowName>) -> usize
-    ensures { (all : List RowName) → ((q : RowName) → is_row names.items q ≡ is_row all q) → result ≡ distinct_count (eq_by_cmp row_name_cmp) all }
+    ensures { (all : List RowName) → ((q : RowName) → is_row names.items q ≡ is_row all q)
+        → result ≡ distinct_count (eq_by_cmp row_name_cmp) all }
 {
     let mut names = names;
     names.sort_unstable();
@@ -146,7 +155,8 @@ fn different(names: Vec<RowName>) -> usize
 }
 
 impl Script {
-    /// The first limit that the script exceeds, in the order of `Excess`; `None` if it exceeds none.
+    /// The first limit that the script exceeds, in the order of `Excess`; `None` if it exceeds
+    /// none.
     pub fn check_limits(&self, alloc: Global) -> Result<Option<Excess>, NoMemory>
         ensures { IfOk result (λ excess. excess ≡ excess_of self.now) }
     {

@@ -42,8 +42,8 @@ pub(crate) fn keys(first: Word, others: &[Word]) -> Result<Keys, ScriptKind>
     Ok(keys)
 }
 
-/// Reads the cells of a row, one for each column, to where the row lies: a row that is returned is copied.
-/// What `row` is after an `Err` isn't said.
+/// Reads the cells of a row, one for each column, to where the row lies: a row that is returned is
+/// copied. What `row` is after an `Err` isn't said.
 pub(crate) fn read_row(
     row: &mut Row,
     columns: &[CellType],

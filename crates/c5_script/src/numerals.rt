@@ -3,7 +3,8 @@
 ghost use Rattle.std.specs.Prelude.{◌≡◌, ◌≤◌, length, IfSome, IsTrue};
 ghost use Rattle.std.specs.List.{list_all};
 ghost use Rattle.c5_rows.specs.Sizes.{max_workers, max_sessions};
-ghost use Rattle.c5_definitions.specs.Numerals.{is_digit, digits_after, magnitude_of, as_positive, as_negative, int_of_digits, turn_number_of};
+ghost use Rattle.c5_definitions.specs.Numerals.{is_digit, digits_after, magnitude_of, as_positive};
+ghost use Rattle.c5_definitions.specs.Numerals.{as_negative, int_of_digits, turn_number_of};
 
 fn are_digits(bytes: &[u8]) -> bool
     ensures { result ≡ list_all is_digit bytes.now }

@@ -3,6 +3,7 @@
 ghost use Rattle.std.specs.Prelude.{◌≡◌, ◌≤◌, length};
 ghost use Rattle.c5_definitions.specs.Script.{after_numbered, script_of};
 ghost use Rattle.c5_script.specs.Parsing.{ParsesTo};
+ghost use Rattle.c5_rows.specs.Sizes.{max_log_bytes};
 
 use crate::fault::LineError;
 use crate::lines::first_line;
@@ -59,7 +60,7 @@ fn take_line<'a>(
 
 /// Reads a script. `Bad` has the first fault of the bytes, which comes exactly where they have one.
 pub fn parse(alloc: Global, bytes: &[u8]) -> Result<Script, ParseFault>
-    requires { length bytes.now ≤ 88080384 }
+    requires { length bytes.now ≤ max_log_bytes }
     ensures { ParsesTo (λ script. script) result (script_of bytes.now) }
 {
     let mut script = PartialScript::new(alloc);

@@ -1,8 +1,10 @@
 //! A script that is read in part.
 
 ghost use Rattle.std.specs.Prelude.{◌≡◌, Ok, IsTrue, Some, None, if◌then◌else◌};
-ghost use Rattle.c5_definitions.specs.ScriptSoFar.{script_start, parts_of, is_closed, is_outside, has_table};
-ghost use Rattle.c5_definitions.specs.Statements.{end_line, known_line, after_line, is_log_line, after_front_line};
+ghost use Rattle.c5_definitions.specs.ScriptSoFar.{script_start, parts_of, is_closed, is_outside};
+ghost use Rattle.c5_definitions.specs.ScriptSoFar.{has_table};
+ghost use Rattle.c5_definitions.specs.Statements.{end_line, known_line, after_line, is_log_line};
+ghost use Rattle.c5_definitions.specs.Statements.{after_front_line};
 ghost use Rattle.c5_script.specs.Partial.{block_of, script_so_far, BlockFits};
 ghost use Rattle.c5_script.specs.Words.{held_words};
 ghost use Rattle.c5_script.specs.Taking.{StepsTo};
@@ -70,7 +72,9 @@ fn add_end(
     words: &[Word],
 ) -> Result<(), LineError>
     requires { BlockFits script.old block.old }
-    ensures step { StepsTo (λ _. script_so_far script.new block.new) result (end_line (block_of block.old) (script_so_far script.old block.old) (held_words words.now)) }
+    ensures step { StepsTo (λ _. script_so_far script.new block.new) result
+        (end_line (block_of block.old) (script_so_far script.old block.old)
+        (held_words words.now)) }
     ensures fits { BlockFits script.new block.new }
 {
     let open = mem::replace(block, OpenBlock::Outside);
@@ -89,7 +93,8 @@ fn add_known(
     words: &[Word],
 ) -> Result<(), LineError>
     requires { BlockFits script.old block.old }
-    ensures step { StepsTo (λ _. script_so_far script.new block.new) result (known_line (script_so_far script.old block.old) first.now (held_words words.now)) }
+    ensures step { StepsTo (λ _. script_so_far script.new block.new) result
+        (known_line (script_so_far script.old block.old) first.now (held_words words.now)) }
     ensures fits { BlockFits script.new block.new }
 {
     if first == b"end".as_slice() {
@@ -118,8 +123,8 @@ impl PartialScript {
         }
     }
 
-    /// Takes a line of these words. `Fault` exactly where the line fails a test, with the kind of the first.
-    /// What has been read after an `Err` isn't said.
+    /// Takes a line of these words. `Fault` exactly where the line fails a test, with the kind of
+    /// the first. What has been read after an `Err` isn't said.
     #[tactic(auto, unfolding(c5_definitions::specs::Statements::after_line))]
     pub(crate) fn take_line(&mut self, words: &[Word]) -> Result<(), LineError>
         ensures { StepsTo (λ _. self.new) result (after_line self.old (held_words words.now)) }
@@ -144,11 +149,12 @@ impl PartialScript {
         }
     }
 
-    /// Takes a line of these words, which may be the `log` line. `Fault` exactly where the line fails a test,
-    /// with the kind of the first. What has been read after an `Err` isn't said.
+    /// Takes a line of these words, which may be the `log` line. `Fault` exactly where the line
+    /// fails a test, with the kind of the first. What has been read after an `Err` isn't said.
     #[tactic(auto, unfolding(c5_definitions::specs::Statements::after_front_line, c5_definitions::specs::Statements::log_line))]
     pub(crate) fn take_front_line(&mut self, words: &[Word]) -> Result<Taken, LineError>
-        ensures step { StepsTo (front_line_of self.new) result (after_front_line self.old (held_words words.now)) }
+        ensures step { StepsTo (front_line_of self.new) result
+            (after_front_line self.old (held_words words.now)) }
         ensures log { result ≡ Ok Taken.Log → self.new ≡ self.old }
     {
         if self.is_log_line(words) {

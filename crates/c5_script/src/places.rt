@@ -5,7 +5,9 @@ ghost use Rattle.c5_definitions.specs.FitsScript.{IsTurn};
 ghost use Rattle.c5_rows.specs.Sizes.{max_columns, max_tables, max_sessions, max_workers};
 ghost use Rattle.c5_definitions.specs.Numerals.{turn_number_of};
 ghost use Rattle.c5_rows.specs.Tables.{IsSchema, table_number};
-ghost use Rattle.c5_definitions.specs.Places.{new_name_in, type_in, table_in, key_in, row_name_in, int_in, cell_in, found_or, columns_of, column_in, rel_in, session_in, turn_in, int_column_of};
+ghost use Rattle.c5_definitions.specs.Places.{new_name_in, type_in, table_in, key_in, row_name_in};
+ghost use Rattle.c5_definitions.specs.Places.{int_in, cell_in, found_or, columns_of, column_in};
+ghost use Rattle.c5_definitions.specs.Places.{rel_in, session_in, turn_in, int_column_of};
 ghost use Rattle.c5_script.specs.Words.{held_word};
 
 use crate::numerals::{number_of, turn_number_of};
@@ -88,7 +90,8 @@ pub(crate) fn row_name(
     key_word: Word,
 ) -> Result<RowName, ScriptKind>
     requires { length tables.now ≤ max_tables }
-    ensures { result ≡ row_name_in tables.now (held_word table_word.entry) (held_word key_word.entry) }
+    ensures { result ≡ row_name_in tables.now (held_word table_word.entry)
+        (held_word key_word.entry) }
 {
     let table = table(tables, table_word)?;
     let key = key(key_word)?;

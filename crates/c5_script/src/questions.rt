@@ -37,7 +37,9 @@ fn sum_of(
 ) -> Result<ReadLine, ScriptKind>
     requires tables { length tables.now ≤ max_tables }
     requires keys { length others.now < max_sum_keys }
-    ensures { result ≡ sum_words tables.now (held_word table_word.entry ∷ held_word column.entry ∷ held_word first.entry ∷ held_words others.now) }
+    ensures { result ≡ sum_words tables.now
+        (held_word table_word.entry ∷ held_word column.entry ∷ held_word first.entry
+        ∷ held_words others.now) }
 {
     let table = table(tables, table_word)?;
     let col = int_column(columns(tables, table), column)?;

@@ -14,7 +14,8 @@ use c5_rows::{NoMemory, Schema, TableDef};
 use std::alloc::Global;
 use std::marker::Model;
 
-/// Tables, bodies of transactions, read blocks and a schedule. Every name, row and column fits the tables.
+/// Tables, bodies of transactions, read blocks and a schedule. Every name, row and column fits the
+/// tables.
 #[derive(Debug, Drop)]
 pub struct Script {
     schema: Schema,
@@ -29,9 +30,20 @@ impl Model for Script {
 
     ghost Value = { ScriptParts };
 
-    ghost view = { λ s. record { tables = s.schema; bodies = s.bodies.items; reads = s.reads.items; turns = s.turns.items } };
+    ghost view = { λ s. record {
+      tables = s.schema;
+      bodies = s.bodies.items;
+      reads = s.reads.items;
+      turns = s.turns.items;
+    } };
 
-    ghost invariant = { λ s. IsScript (record { tables = s.schema; bodies = s.bodies.items; reads = s.reads.items; turns = s.turns.items }) };
+    ghost invariant = { λ s. IsScript
+        (record {
+          tables = s.schema;
+          bodies = s.bodies.items;
+          reads = s.reads.items;
+          turns = s.turns.items;
+        }) };
 }
 
 // What the types of its parts say of a table.
@@ -78,7 +90,13 @@ impl Script {
         requires no_reads { self.old.reads ≡ [] }
         requires room { length self.old.tables < max_tables }
         requires new_name { table_number table.name self.old.tables ≡ None }
-        ensures { self.new ≡ record { tables = self.old.tables ++ table ∷ []; bodies = []; reads = []; turns = self.old.turns } }
+        ensures { self.new
+            ≡ record {
+              tables = self.old.tables ++ table ∷ [];
+              bodies = [];
+              reads = [];
+              turns = self.old.turns;
+            } }
     {
         match self.schema.push(table) {
             Ok(()) => know_schema(&self.schema),
@@ -89,7 +107,14 @@ impl Script {
     /// Adds a body at the end. After `NoMemory` nothing has changed, and the body is dropped.
     pub fn push_body(&mut self, body: Body) -> Result<(), NoMemory>
         requires fits { BodyFits self.old.tables body }
-        ensures ok { OnOk result (self.new ≡ record { tables = self.old.tables; bodies = self.old.bodies ++ body ∷ []; reads = self.old.reads; turns = self.old.turns }) }
+        ensures ok { OnOk result
+            (self.new
+            ≡ record {
+              tables = self.old.tables;
+              bodies = self.old.bodies ++ body ∷ [];
+              reads = self.old.reads;
+              turns = self.old.turns;
+            }) }
         ensures err { OnErr result (self.new ≡ self.old) }
     {
         let mut body = body;
@@ -98,11 +123,19 @@ impl Script {
         Ok(())
     }
 
-    /// Adds a read block at the end. After `NoMemory` nothing has changed, and the block is dropped.
+    /// Adds a read block at the end. After `NoMemory` nothing has changed, and the block is
+    /// dropped.
     pub fn push_read(&mut self, read: ReadBlock) -> Result<(), NoMemory>
         requires room { length self.old.reads < max_reads }
         requires fits { ReadFits self.old.tables read }
-        ensures ok { OnOk result (self.new ≡ record { tables = self.old.tables; bodies = self.old.bodies; reads = self.old.reads ++ read ∷ []; turns = self.old.turns }) }
+        ensures ok { OnOk result
+            (self.new
+            ≡ record {
+              tables = self.old.tables;
+              bodies = self.old.bodies;
+              reads = self.old.reads ++ read ∷ [];
+              turns = self.old.turns;
+            }) }
         ensures err { OnErr result (self.new ≡ self.old) }
     {
         let _lines = read.lines();
@@ -114,7 +147,14 @@ impl Script {
     pub(crate) fn push_turn(&mut self, word: TurnWord) -> Result<(), NoMemory>
         requires range { IsTurn word }
         requires room { length self.old.turns < max_turn_words }
-        ensures ok { OnOk result (self.new ≡ record { tables = self.old.tables; bodies = self.old.bodies; reads = self.old.reads; turns = self.old.turns ++ word ∷ [] }) }
+        ensures ok { OnOk result
+            (self.new
+            ≡ record {
+              tables = self.old.tables;
+              bodies = self.old.bodies;
+              reads = self.old.reads;
+              turns = self.old.turns ++ word ∷ [];
+            }) }
         ensures err { OnErr result (self.new ≡ self.old) }
     {
         self.turns.push(word)?;

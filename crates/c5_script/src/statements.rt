@@ -1,11 +1,13 @@
-//! The statements of a transaction. Each is added to the body by the function that reads it: a statement has more
-//! than 300 bytes, and each function that handed it on would copy it.
+//! The statements of a transaction. Each is added to the body by the function that reads it: a
+//! statement has more than 300 bytes, and each function that handed it on would copy it.
 
 ghost use Rattle.std.specs.Prelude.{◌≡◌, ◌≤◌, ◌<◌, ◌∷◌, [], length, OnErr};
 ghost use Rattle.c5_rows.specs.Sizes.{max_tables, max_statements};
 ghost use Rattle.c5_definitions.specs.FitsScript.{BodyFits};
 ghost use Rattle.c5_definitions.specs.ScriptSoFar.{in_txn};
-ghost use Rattle.c5_definitions.specs.Statements.{put_statement, put_words, del_words, need_words, add_words, copy_words, form_of, statement_words, statement_line};
+ghost use Rattle.c5_definitions.specs.Statements.{put_statement, put_words, del_words, need_words};
+ghost use Rattle.c5_definitions.specs.Statements.{add_words, copy_words, form_of, statement_words};
+ghost use Rattle.c5_definitions.specs.Statements.{statement_line};
 ghost use Rattle.c5_script.specs.Forms.{form_held};
 ghost use Rattle.c5_script.specs.Partial.{with_statement};
 ghost use Rattle.c5_script.specs.Taking.{StepsTo};
@@ -34,7 +36,10 @@ fn put_of(
     requires tables { length tables.now ≤ max_tables }
     requires room { length body.old < max_statements }
     requires some { 1 ≤ length cells.now }
-    ensures step { StepsTo (λ _. in_txn body.new) result (with_statement body.old (put_statement tables.now (held_word table.entry) (held_word key.entry) (held_words cells.now))) }
+    ensures step { StepsTo (λ _. in_txn body.new) result
+        (with_statement body.old
+        (put_statement tables.now (held_word table.entry) (held_word key.entry)
+        (held_words cells.now))) }
     ensures err { OnErr result (body.new ≡ body.old) }
 {
     let name = row_name(tables, table, key)?;
@@ -48,7 +53,8 @@ fn put_of(
 fn put(body: &mut Body, tables: &[TableDef], words: &[Word]) -> Result<(), LineError>
     requires tables { length tables.now ≤ max_tables }
     requires room { length body.old < max_statements }
-    ensures step { StepsTo (λ _. in_txn body.new) result (with_statement body.old (put_words tables.now (held_words words.now))) }
+    ensures step { StepsTo (λ _. in_txn body.new) result
+        (with_statement body.old (put_words tables.now (held_words words.now))) }
     ensures err { OnErr result (body.new ≡ body.old) }
 {
     match words {
@@ -62,7 +68,8 @@ fn put(body: &mut Body, tables: &[TableDef], words: &[Word]) -> Result<(), LineE
 fn del(body: &mut Body, tables: &[TableDef], words: &[Word]) -> Result<(), LineError>
     requires tables { length tables.now ≤ max_tables }
     requires room { length body.old < max_statements }
-    ensures step { StepsTo (λ _. in_txn body.new) result (with_statement body.old (del_words tables.now (held_words words.now))) }
+    ensures step { StepsTo (λ _. in_txn body.new) result
+        (with_statement body.old (del_words tables.now (held_words words.now))) }
     ensures err { OnErr result (body.new ≡ body.old) }
 {
     let [table, key] = words else {
@@ -86,7 +93,10 @@ fn need_of(
 ) -> Result<(), LineError>
     requires tables { length tables.now ≤ max_tables }
     requires room { length body.old < max_statements }
-    ensures step { StepsTo (λ _. in_txn body.new) result (with_statement body.old (need_words tables.now (held_word table.entry ∷ held_word key.entry ∷ held_word column.entry ∷ held_word relation.entry ∷ held_word limit.entry ∷ []))) }
+    ensures step { StepsTo (λ _. in_txn body.new) result
+        (with_statement body.old
+        (need_words tables.now (held_word table.entry ∷ held_word key.entry ∷ held_word column.entry
+        ∷ held_word relation.entry ∷ held_word limit.entry ∷ []))) }
     ensures err { OnErr result (body.new ≡ body.old) }
 {
     let name = row_name(tables, table, key)?;
@@ -101,7 +111,8 @@ fn need_of(
 fn need(body: &mut Body, tables: &[TableDef], words: &[Word]) -> Result<(), LineError>
     requires tables { length tables.now ≤ max_tables }
     requires room { length body.old < max_statements }
-    ensures step { StepsTo (λ _. in_txn body.new) result (with_statement body.old (need_words tables.now (held_words words.now))) }
+    ensures step { StepsTo (λ _. in_txn body.new) result
+        (with_statement body.old (need_words tables.now (held_words words.now))) }
     ensures err { OnErr result (body.new ≡ body.old) }
 {
     match words {
@@ -124,7 +135,10 @@ fn add_of(
 ) -> Result<(), LineError>
     requires tables { length tables.now ≤ max_tables }
     requires room { length body.old < max_statements }
-    ensures step { StepsTo (λ _. in_txn body.new) result (with_statement body.old (add_words tables.now (held_word table.entry ∷ held_word key.entry ∷ held_word column.entry ∷ held_word amount.entry ∷ []))) }
+    ensures step { StepsTo (λ _. in_txn body.new) result
+        (with_statement body.old
+        (add_words tables.now (held_word table.entry ∷ held_word key.entry ∷ held_word column.entry
+        ∷ held_word amount.entry ∷ []))) }
     ensures err { OnErr result (body.new ≡ body.old) }
 {
     let name = row_name(tables, table, key)?;
@@ -138,7 +152,8 @@ fn add_of(
 fn add(body: &mut Body, tables: &[TableDef], words: &[Word]) -> Result<(), LineError>
     requires tables { length tables.now ≤ max_tables }
     requires room { length body.old < max_statements }
-    ensures step { StepsTo (λ _. in_txn body.new) result (with_statement body.old (add_words tables.now (held_words words.now))) }
+    ensures step { StepsTo (λ _. in_txn body.new) result
+        (with_statement body.old (add_words tables.now (held_words words.now))) }
     ensures err { OnErr result (body.new ≡ body.old) }
 {
     match words {
@@ -158,7 +173,10 @@ fn copy_of(
 ) -> Result<(), LineError>
     requires tables { length tables.now ≤ max_tables }
     requires room { length body.old < max_statements }
-    ensures step { StepsTo (λ _. in_txn body.new) result (with_statement body.old (copy_words tables.now (held_word table.entry ∷ held_word from.entry ∷ held_word to.entry ∷ []))) }
+    ensures step { StepsTo (λ _. in_txn body.new) result
+        (with_statement body.old
+        (copy_words tables.now (held_word table.entry ∷ held_word from.entry ∷ held_word to.entry
+        ∷ []))) }
     ensures err { OnErr result (body.new ≡ body.old) }
 {
     let from = row_name(tables, table, from)?;
@@ -175,7 +193,8 @@ fn copy_of(
 fn copy(body: &mut Body, tables: &[TableDef], words: &[Word]) -> Result<(), LineError>
     requires tables { length tables.now ≤ max_tables }
     requires room { length body.old < max_statements }
-    ensures step { StepsTo (λ _. in_txn body.new) result (with_statement body.old (copy_words tables.now (held_words words.now))) }
+    ensures step { StepsTo (λ _. in_txn body.new) result
+        (with_statement body.old (copy_words tables.now (held_words words.now))) }
     ensures err { OnErr result (body.new ≡ body.old) }
 {
     match words {
@@ -222,7 +241,9 @@ fn statement_of(
 ) -> Result<(), LineError>
     requires tables { length tables.now ≤ max_tables }
     requires room { length body.old < max_statements }
-    ensures step { StepsTo (λ _. in_txn body.new) result (with_statement body.old (statement_words (form_held form) tables.now (held_words words.now))) }
+    ensures step { StepsTo (λ _. in_txn body.new) result
+        (with_statement body.old
+        (statement_words (form_held form) tables.now (held_words words.now))) }
     ensures err { OnErr result (body.new ≡ body.old) }
 {
     match form {
@@ -244,7 +265,9 @@ pub(crate) fn add_statement(
 ) -> Result<(), LineError>
     requires tables { length tables.now ≤ max_tables }
     requires fits { BodyFits tables.now body.old }
-    ensures step { StepsTo (λ _. in_txn body.new) result (with_statement body.old (statement_line tables.now (length body.old) first.now (held_words words.now))) }
+    ensures step { StepsTo (λ _. in_txn body.new) result
+        (with_statement body.old
+        (statement_line tables.now (length body.old) first.now (held_words words.now))) }
     ensures fits { BodyFits tables.now body.new }
 {
     let form = form_of(first)?;

@@ -18,7 +18,8 @@ fn name_of(bytes: &[u8]) -> Result<RowName, Fail>
 
 // The table `acct` of one Int column.
 fn accounts() -> Result<Schema, Fail>
-    ensures { IfOk result (λ tables. MatchOption (slice_get tables 0) ⊥ (λ table. types.Int ∷ [] ≡ table.columns)) }
+    ensures { IfOk result
+        (λ tables. MatchOption (slice_get tables 0) ⊥ (λ table. types.Int ∷ [] ≡ table.columns)) }
 {
     Ok(Schema::one(TableDef {
         name: TableName::new(b"acct")?,

@@ -1,9 +1,11 @@
 //! The words of a line.
 
-ghost use Rattle.std.specs.Prelude.{◌≡◌, ◌≢◌, ◌<◌, ◌≤◌, ◌==◌, ◌||◌, [], ◌∷◌, length, take, drop, position, slice_index, IfOk};
+ghost use Rattle.std.specs.Prelude.{◌≡◌, ◌≢◌, ◌<◌, ◌≤◌, ◌==◌, ◌||◌, [], ◌∷◌, length, take, drop};
+ghost use Rattle.std.specs.Prelude.{position, slice_index, IfOk};
 ghost use Rattle.std.specs.List.{list_all};
 ghost use Rattle.c5_definitions.specs.Words.{bare, quoted};
-ghost use Rattle.c5_definitions.specs.Lines.{between, in_bare, in_quoted, words_at, words_of, is_line_byte, is_word_end};
+ghost use Rattle.c5_definitions.specs.Lines.{between, in_bare, in_quoted, words_at, words_of};
+ghost use Rattle.c5_definitions.specs.Lines.{is_line_byte, is_word_end};
 ghost use Rattle.c5_script.specs.Words.{held_word, held_words};
 ghost use Rattle.c5_script.specs.Reading.{FindsWord};
 ghost use Rattle.c5_script.specs.Taking.{StepsTo};
@@ -18,8 +20,8 @@ fn is_line_byte(byte: u8) -> bool
     byte >= b' ' && byte <= b'~'
 }
 
-// Each byte of the line is a blank or a printable byte. Each is tested, also behind one that is not allowed:
-// so there is no branch in the loop.
+// Each byte of the line is a blank or a printable byte. Each is tested, also behind one that is not
+// allowed: so there is no branch in the loop.
 fn has_line_bytes(line: &[u8]) -> bool
     ensures { result ≡ list_all is_line_byte line.now }
 {
@@ -45,7 +47,8 @@ fn quote(bytes: &[u8]) -> Option<usize>
 // The bare word that begins with the first byte, and the bytes behind it.
 fn bare_in(bytes: &[u8]) -> Result<(&[u8], &[u8]), ScriptKind>
     requires { 1 ≤ length bytes.now }
-    ensures words { FindsWord (λ x. bare x.0.now) (λ x. x.1.now) (words_at (in_bare (take 1 bytes.now)) (drop 1 bytes.now)) result }
+    ensures words { FindsWord (λ x. bare x.0.now) (λ x. x.1.now)
+        (words_at (in_bare (take 1 bytes.now)) (drop 1 bytes.now)) result }
     ensures shorter { IfOk result (λ x. length x.1.now < length bytes.now) }
 {
     match bare_end(&bytes[1..]) {
@@ -72,7 +75,8 @@ fn is_word_end(bytes: &[u8]) -> bool
 
 // The text up to the closing quote, and the bytes behind that.
 fn text_in(bytes: &[u8]) -> Result<(&[u8], &[u8]), ScriptKind>
-    ensures words { FindsWord (λ x. quoted x.0.now) (λ x. x.1.now) (words_at (in_quoted []) bytes.now) result }
+    ensures words { FindsWord (λ x. quoted x.0.now) (λ x. x.1.now)
+        (words_at (in_quoted []) bytes.now) result }
     ensures shorter { IfOk result (λ x. length x.1.now < length bytes.now) }
 {
     match quote(bytes) {
@@ -91,7 +95,8 @@ fn text_in(bytes: &[u8]) -> Result<(&[u8], &[u8]), ScriptKind>
 fn word_in(bytes: &[u8]) -> Result<(Word<'_>, &[u8]), ScriptKind>
     requires some { 1 ≤ length bytes.now }
     requires no_blank { slice_index bytes.now 0 ≢ 32 }
-    ensures words { FindsWord (λ x. held_word x.0) (λ x. x.1.now) (words_at between bytes.now) result }
+    ensures words { FindsWord (λ x. held_word x.0) (λ x. x.1.now)
+        (words_at between bytes.now) result }
     ensures shorter { IfOk result (λ x. length x.1.now < length bytes.now) }
 {
     if bytes[0] == b'"' {

@@ -8,10 +8,11 @@ use Rattle.std.proofs.lemmas.List.Elements.{Contains-get_or, All-from_get_or}
 use Rattle.c5_definitions.specs.WriteNumbers.{end_of}
 use Rattle.c5_board.specs.declared.known.Look.{Look}
 use Rattle.c5_board.specs.declared.known.Look.TheVariants.{LoadProgress}
-use Rattle.c5_board.specs.Sets.{has, number_of, with_number}
+use Rattle.c5_board.specs.Sets.{number_of, with_number}
+use Rattle.c5_rows.specs.Numbers.{is_among}
 use Rattle.c5_board.specs.Boards.{Board, Pass, IsWorker}
 use Rattle.c5_board.specs.Passes.{floor_of}
-use Rattle.c5_snapshot.specs.Advances.{progress_loads, LoadsProgress, IsLeastOf, advanced}
+use Rattle.c5_snapshot.specs.Advances.{progress_loads, LoadsEachProgress, IsLeastOf, advanced}
 use Rattle.c5_snapshot.specs.Loading.{IsFloorUpTo, HasLoaded}
 
 progress_loads-append : (i : ℕ) (found : List ℕ) (x : ℕ) → progress_loads i (found ++ x ∷ []) ≡ progress_loads i found ++ LoadProgress (i + length found) x ∷ []
@@ -63,7 +64,7 @@ loads_more looks floors n x within =
     suc_one n = omega arith
 
 pub HasLoaded-more : (old mid new : Pass) (n least x m : ℕ) → HasLoaded old mid n least → new ≡ record mid { floors = with_number mid.floors (n + 1) x; looks = mid.looks ++ LoadProgress (n + 1) x ∷ [] }
-    → n + 1 ≤ length mid.floors → floor_of mid (n + 1) ≤ x → 1 ≤ x → (has (n + 1) mid.roles ≡ true → x ≡ floor_of mid (n + 1)) → end_of mid.board.log.txns mid.place < x
+    → n + 1 ≤ length mid.floors → floor_of mid (n + 1) ≤ x → 1 ≤ x → (is_among (n + 1) mid.roles ≡ true → x ≡ floor_of mid (n + 1)) → end_of mid.board.log.txns mid.place < x
     → 1 ≤ m → m ≤ x → (1 ≤ n → m ≤ least) → (m ≡ x) ⊎ ((m ≡ least) × (1 ≤ n)) → HasLoaded old new (n + 1) m
 HasLoaded-more old mid new n least x m h is within up some own above first low lower one =
     let floors : new.floors ≡ with_number mid.floors (n + 1) x = ap (λ (p : Pass). p.floors) is in
@@ -81,7 +82,7 @@ HasLoaded-more old mid new n least x m h is within up some own above first low l
       count = ap length floors ∙ length-set mid.floors (n + 1 - 1) x ∙ h.count;
       rise = λ i p. at i (λ (y : ℕ). floor_of old i ≤ y) p (λ e. let r = h.rise i p in let same = ap (floor_of mid) e in omega arith) (λ d. h.rise i p);
       own = λ i p role. at i (λ (y : ℕ). y ≡ floor_of old i) p
-          (λ e. own (subst (λ (k : ℕ). has k mid.roles ≡ true) e (ap (has i) roles ∙ role)) ∙ ap (floor_of mid) (sym e) ∙ h.own i p role)
+          (λ e. own (subst (λ (k : ℕ). is_among k mid.roles ≡ true) e (ap (is_among i) roles ∙ role)) ∙ ap (floor_of mid) (sym e) ∙ h.own i p role)
           (λ d. h.own i p role);
       above = λ i p up_to. at i (λ (y : ℕ). end_of old.board.log.txns old.place < y) p (λ e. omega arith) (λ d. h.above i p (omega arith));
       among = λ p. elim one [
@@ -104,7 +105,7 @@ lesser_is a b = by (leb a b) refl
 
 -- the lesser of the least before and the number found
 pub HasLoaded-min : (old mid new : Pass) (n least x m : ℕ) → HasLoaded old mid n least → new ≡ record mid { floors = with_number mid.floors (n + 1) x; looks = mid.looks ++ LoadProgress (n + 1) x ∷ [] }
-    → n + 1 ≤ length mid.floors → floor_of mid (n + 1) ≤ x → 1 ≤ x → (has (n + 1) mid.roles ≡ true → x ≡ floor_of mid (n + 1)) → end_of mid.board.log.txns mid.place < x
+    → n + 1 ≤ length mid.floors → floor_of mid (n + 1) ≤ x → 1 ≤ x → (is_among (n + 1) mid.roles ≡ true → x ≡ floor_of mid (n + 1)) → end_of mid.board.log.txns mid.place < x
     → m ≡ min least x → 1 ≤ n → HasLoaded old new (n + 1) m
 HasLoaded-min old mid new n least x m h is within up some own above e later =
     let p = h.positive in
@@ -147,7 +148,7 @@ module _ (old mid new : Pass) (b : Board) (n least place : ℕ) (h : HasLoaded o
       ∙ (λ j. record (h.pass j) { place = place; scheduled = max (h.pass j).scheduled (end_of (sym of j).log.txns place) })
       ∙ (λ j. record old { floors = floors-kept j; place = place; scheduled = max old.scheduled (end_of old.board.log.txns place); looks = old.looks ++ progress_loads 1 (all j) })
 
-  pub progress-loaded : LoadsProgress old new
+  pub progress-loaded : LoadsEachProgress old new
   progress-loaded =
       record {
         count = ap length (sym floors-kept) ∙ h.count ∙ old_count;

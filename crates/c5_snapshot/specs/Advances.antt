@@ -1,9 +1,10 @@
 -- What a turn of the snapshot finds.
-use Rattle.std.specs.Prelude.{◌≡◌, ◌≤◌, ◌+◌, ◌++◌, ℕ, true, List, [], ◌∷◌, length, Contains, All, max}
+use Rattle.std.specs.Prelude.{◌≡◌, ◌≤◌, ◌+◌, ◌++◌, ℕ, true, List, [], ◌∷◌, length, Contains, All}
+use Rattle.std.specs.Prelude.{max}
 use Rattle.c5_definitions.specs.WriteNumbers.{end_of}
 use Rattle.c5_board.specs.declared.known.Look.{Look}
 use Rattle.c5_board.specs.declared.known.Look.TheVariants.{LoadProgress}
-use Rattle.c5_board.specs.Sets.{has}
+use Rattle.c5_rows.specs.Numbers.{is_among}
 use Rattle.c5_board.specs.Boards.{Pass, IsWorker}
 use Rattle.c5_board.specs.Passes.{floor_of}
 
@@ -12,11 +13,13 @@ abbrev pub progress_loads : ℕ → List ℕ → List Look
 progress_loads i [] = []
 progress_loads i (found ∷ rest) = LoadProgress i found ∷ progress_loads (i + 1) rest
 
--- the progress of each worker was loaded, which the pass knows from then on: none has fallen, and those of its own roles are as it knew
-pub record LoadsProgress (old new : Pass) : Type 0 where
+-- the progress of each worker was loaded, which the pass knows from then on: none has fallen, and
+-- those of its own roles are as it knew
+pub record LoadsEachProgress (old new : Pass) : Type 0 where
   pub count : length new.floors ≡ old.board.workers
   pub rise : (i : ℕ) → IsWorker old.board.workers i → floor_of old i ≤ floor_of new i
-  pub own : (i : ℕ) → IsWorker old.board.workers i → has i old.roles ≡ true → floor_of new i ≡ floor_of old i
+  pub own : (i : ℕ) → IsWorker old.board.workers i → is_among i old.roles ≡ true
+      → floor_of new i ≡ floor_of old i
 
 -- the least of the numbers
 pub record IsLeastOf (least : ℕ) (numbers : List ℕ) : Type 0 where

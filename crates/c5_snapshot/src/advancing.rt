@@ -2,7 +2,7 @@
 
 ghost use Rattle.std.specs.Prelude.{◌≡◌, ◌≤◌, min, true};
 ghost use Rattle.c5_definitions.specs.WriteNumbers.{place_below};
-ghost use Rattle.c5_snapshot.specs.Advances.{LoadsProgress, IsLeastOf, advanced};
+ghost use Rattle.c5_snapshot.specs.Advances.{LoadsEachProgress, IsLeastOf, advanced};
 ghost use Rattle.c5_board.specs.Passes.{IsSound};
 ghost use Rattle.c5_snapshot.specs.Loading.{HasLoaded};
 
@@ -32,13 +32,13 @@ fn load_least(board: &Board<'_>, pass: &mut BoardPass) -> u64
     least
 }
 
-/// Loads the progress of each worker once, from worker 1 on, and makes the greatest place whose writes are
-/// all below the least of them visible. The visible place never falls.
+/// Loads the progress of each worker once, from worker 1 on, and makes the greatest place whose
+/// writes are all below the least of them visible. The visible place never falls.
 pub fn advance(board: &Board<'_>, pass: &mut BoardPass) -> Advance
     requires pass { pass.old.board ≡ board.now }
     requires role { pass.old.snapshot ≡ true }
     ensures pass { pass.new ≡ advanced pass.old pass.new.floors result.place }
-    ensures loads { LoadsProgress pass.old pass.new }
+    ensures loads { LoadsEachProgress pass.old pass.new }
     ensures least { IsLeastOf result.least pass.new.floors }
     ensures place { result.place ≡ place_below board.now.log.txns result.least }
     ensures not_below { pass.old.place ≤ result.place }

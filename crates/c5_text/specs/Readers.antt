@@ -12,7 +12,8 @@ pub record IsNumber (bytes : List ℕ) (n : ℕ) : Type 0 where
   pub small : n < 2 ^ 32
   pub spelled : bytes ≡ decimal n
 
--- the bytes are the label, a space and this number of 32 bits, and then the rest, if any after a space
+-- the bytes are the label, a space and this number of 32 bits, and then the rest, if any after a
+-- space
 pub record IsAfter (label bytes : List ℕ) (n : ℕ) (rest : List ℕ) : Type 0 where
   pub small : n < 2 ^ 32
   pub ends : IsTrue (is_word_end rest)

@@ -1,6 +1,7 @@
 -- Reading a row's line from left to right.
 use lib.Signed.{mag}
-use Rattle.std.specs.Prelude.{◌≡◌, ℕ, ℤ, ◌^◌, ◌==◌, ◌&&◌, nat_lt, suc, List, [], ◌∷◌, length, take, drop, slice_get, Option, Some, None, Result, Ok, Err, if◌then◌else◌}
+use Rattle.std.specs.Prelude.{◌≡◌, ℕ, ℤ, ◌^◌, ◌==◌, ◌&&◌, nat_lt, suc, List, [], ◌∷◌, length, take}
+use Rattle.std.specs.Prelude.{drop, slice_get, Option, Some, None, Result, Ok, Err, if◌then◌else◌}
 use Rattle.std.specs.Fmt.{signed_decimal}
 use Rattle.std.specs.Str.{bytes_eq}
 use Rattle.std.specs.Str.Parse.{signed_digits_value}
@@ -43,7 +44,9 @@ rest_after_byte first (byte ∷ bytes) = if byte == first then Some bytes else N
 
 -- the number of 64 bits with a sign that is written so
 unfoldable pub printed_int_of : List ℕ → Option ℤ
-printed_int_of bytes = if nat_lt (mag (signed_digits_value 10 bytes)) (2 ^ 63) && bytes_eq (signed_decimal (signed_digits_value 10 bytes)) bytes then Some (signed_digits_value 10 bytes) else None
+printed_int_of bytes = if nat_lt (mag (signed_digits_value 10 bytes)) (2 ^ 63)
+    && bytes_eq (signed_decimal (signed_digits_value 10 bytes)) bytes
+    then Some (signed_digits_value 10 bytes) else None
 
 -- a number, up to the next blank
 unfoldable pub printed_int_at : List ℕ → Option (Cell × List ℕ)

@@ -27,7 +27,8 @@ fn push_cell(out: &mut Vec<u8>, cell: &Cell) -> Result<(), NoMemory>
 
 // Appends a blank and the cell, for each cell.
 pub(crate) fn push_cells(out: &mut Vec<u8>, cells: &[Cell]) -> Result<(), NoMemory>
-    ensures { OnOk result (out.new.items ≡ out.old.items ++ flat_map (λ cell. 32 ∷ cell_text cell) cells.now) }
+    ensures { OnOk result (out.new.items ≡ out.old.items
+        ++ flat_map (λ cell. 32 ∷ cell_text cell) cells.now) }
 {
     for cell in cells {
         push_cell(out, cell)?;

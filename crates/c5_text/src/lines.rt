@@ -8,7 +8,8 @@ use c5_rows::{NoMemory, Row, RowName, TableDef};
 
 // Appends the name of the table of this number, where there is one.
 fn push_name(out: &mut Vec<u8>, tables: &[TableDef], number: u8) -> Result<(), NoMemory>
-    ensures { OnOk result (out.new.items ≡ out.old.items ++ table_name_text (slice_get tables.now number)) }
+    ensures { OnOk result (out.new.items ≡ out.old.items
+        ++ table_name_text (slice_get tables.now number)) }
 {
     if let Some(table) = tables.get(number as usize) {
         out.extend_from_slice(table.name.bytes())?;
@@ -37,7 +38,8 @@ pub(crate) fn push_row(
     name: &RowName,
     row: &Row,
 ) -> Result<(), NoMemory>
-    ensures { OnOk result (out.new.items ≡ out.old.items ++ line_text tables.now (record { name = name.now; row = row.now })) }
+    ensures { OnOk result (out.new.items ≡ out.old.items
+        ++ line_text tables.now (record { name = name.now; row = row.now })) }
 {
     push_row_name(out, tables, name)?;
     push_cells(out, row.cells())?;

@@ -28,7 +28,8 @@ impl<T: Drop> From<AllocFailed<T>> for TextFault {
     }
 }
 
-/// The text of an order: the word `order`, the script numbers, each after one space, and a line end.
+/// The text of an order: the word `order`, the script numbers, each after one space, and a line
+/// end.
 pub fn order_text(alloc: Global, scripts: &[u32]) -> Result<Vec<u8>, NoMemory>
     ensures { IfOk result (λ text. text.items ≡ order_text scripts.now) }
 {
@@ -59,8 +60,8 @@ fn numbers_in(alloc: Global, bytes: &[u8]) -> Result<Vec<u32>, TextFault>
 
 /// Reads the line of an order, without its line end: the script numbers.
 ///
-/// `NotOne` if and only if the line isn't one that `order_text` writes: a leading zero, a space at the end
-/// and a number of more than 32 bits are `NotOne`.
+/// `NotOne` if and only if the line isn't one that `order_text` writes: a leading zero, a space at
+/// the end and a number of more than 32 bits are `NotOne`.
 pub fn read_order(alloc: Global, line: &[u8]) -> Result<Vec<u32>, TextFault>
     ensures found { IfOk result (λ scripts. IsOrder line.now scripts.items) }
     ensures only { (ns : List ℕ) → IsOrder line.now ns → OrNoMemory result (λ r. r.items ≡ ns) }

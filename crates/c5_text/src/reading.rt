@@ -6,7 +6,9 @@ ghost use Rattle.c5_rows.specs.Tables.{IsSchema};
 ghost use Rattle.c5_rows.specs.Bytes.{IsTableName};
 ghost use Rattle.c5_rows.specs.declared.rows.RowEntry.{RowEntry};
 ghost use Rattle.c5_definitions.specs.Texts.{line_text, IsRowOf};
-ghost use Rattle.c5_text.specs.Reading.{GivesOption, bytes_before, rest_after_byte, printed_int_of, printed_int_at, printed_text_at, printed_cell_at, printed_row_at, printed_entry_at, printed_line_at};
+ghost use Rattle.c5_text.specs.Reading.{GivesOption, bytes_before, rest_after_byte, printed_int_of};
+ghost use Rattle.c5_text.specs.Reading.{printed_int_at, printed_text_at, printed_cell_at};
+ghost use Rattle.c5_text.specs.Reading.{printed_row_at, printed_entry_at, printed_line_at};
 
 use c5_rows::{
     Cell, CellType, Key, MAX_COLUMNS, Row, RowEntry, RowName, Schema, TableDef, TextCell,
@@ -156,18 +158,24 @@ fn line_in(tables: &[TableDef], line: &[u8]) -> Option<RowEntry>
 
 // Reads the name of each table: so it is known that no name has a blank.
 fn read_names(tables: &[TableDef])
-    ensures { (number : ℕ) (table : _) → slice_get tables.now number ≡ Some table → IsTableName table.name }
+    ensures { (number : ℕ) (table : _) → slice_get tables.now number ≡ Some table
+        → IsTableName table.name }
 {
     for table in tables {
         table.name.bytes();
     }
 }
 
-/// Reads a row's line, without its line end. `None` exactly where the line is the text of no row of the schema.
+/// Reads a row's line, without its line end. `None` exactly where the line is the text of no row of
+/// the schema.
 pub fn read_row(schema: &Schema, line: &[u8]) -> Option<RowEntry>
-    ensures found { IfSome result (λ entry. (line.now ≡ line_text schema.now entry) × IsRowOf schema.now entry) }
-    ensures none { IfNone result ((entry : RowEntry) → IsRowOf schema.now entry → line.now ≡ line_text schema.now entry → ⊥) }
-    ensures only { (entry : RowEntry) → IsRowOf schema.now entry → line.now ≡ line_text schema.now entry → result ≡ Some entry }
+    ensures found { IfSome result
+        (λ entry. (line.now ≡ line_text schema.now entry) × IsRowOf schema.now entry) }
+    ensures none { IfNone result
+        ((entry : RowEntry) → IsRowOf schema.now entry → line.now ≡ line_text schema.now entry
+        → ⊥) }
+    ensures only { (entry : RowEntry) → IsRowOf schema.now entry
+        → line.now ≡ line_text schema.now entry → result ≡ Some entry }
 {
     let tables = schema.tables();
     read_names(tables);

@@ -24,7 +24,8 @@ pub struct ReplyHead {
 
 // Appends the head and a line end.
 fn push_head(out: &mut Vec<u8>, head: &ReplyHead) -> Result<(), NoMemory>
-    ensures { OnOk result (out.new.items ≡ out.old.items ++ (head_line head.now.session head.now.place head.now.lag ++ 10 ∷ [])) }
+    ensures { OnOk result (out.new.items ≡ out.old.items
+        ++ (head_line head.now.session head.now.place head.now.lag ++ 10 ∷ [])) }
 {
     out.extend_from_slice(b"read")?;
     push_number(out, head.session)?;
@@ -54,7 +55,8 @@ fn push_answer(out: &mut Vec<u8>, tables: &[TableDef], answer: &AnswerLine) -> R
     Ok(())
 }
 
-/// The text of a reply where there are `total` transactions: its head and a line for each of its answers.
+/// The text of a reply where there are `total` transactions: its head and a line for each of its
+/// answers.
 ///
 /// The head's lag is the number of transactions after the reply's place.
 pub fn reply_text(
@@ -84,8 +86,8 @@ pub fn reply_text(
 
 /// Reads the head of a reply, without its line end.
 ///
-/// `None` if and only if the line isn't a head with numbers of 32 bits. A place and a lag that are more than
-/// `u32::MAX` together are read too.
+/// `None` if and only if the line isn't a head with numbers of 32 bits. A place and a lag that are
+/// more than `u32::MAX` together are read too.
 pub fn read_head(line: &[u8]) -> Option<ReplyHead>
     ensures found { IfSome result (λ head. line.now ≡ head_line head.session head.place head.lag) }
     ensures only { (head : ReplyHead) → IsHead line.now head → result ≡ Some head }

@@ -60,7 +60,8 @@ pub(crate) fn after_label<'a>(label: &[u8], bytes: &'a [u8]) -> Option<&'a [u8]>
 // The number after a label and a space, and the bytes after it.
 pub(crate) fn number_after<'a>(label: &[u8], bytes: &'a [u8]) -> Option<(u32, &'a [u8])>
     ensures found { IfSome result (λ x. IsAfter label.now bytes.now x.0 x.1.now) }
-    ensures none { IfNone result ((n : ℕ) (rest : List ℕ) → IsAfter label.now bytes.now n rest → ⊥) }
+    ensures none { IfNone result
+        ((n : ℕ) (rest : List ℕ) → IsAfter label.now bytes.now n rest → ⊥) }
 {
     match after_label(label, bytes) {
         Some(rest) => number_at(rest),

@@ -5,11 +5,11 @@ use Rattle.std.specs.List.{All, Contains}
 use Rattle.std.proofs.lemmas.Bool.{cases_lt}
 use Rattle.std.proofs.lemmas.List.Elements.{All-cons, All-tail}
 use Rattle.c5_versions.specs.declared.versions.Version.{Version}
-use Rattle.c5_versions.specs.Versions.{IsAscending, version_before, with_reader, mark_version, put_version}
+use Rattle.c5_versions.specs.Versions.{AscendsByStamp, version_before, with_reader, mark_version, put_version}
 use Rattle.c5_versions.proofs.VersionLemmas.{first_below, version_before-none, with_reader-wrote}
 
 -- the greatest of those below the stamp is the one that is found
-pub version_before-is : (stamp : ℕ) (versions : List Version) (x : Version) → IsAscending versions → Contains versions x → x.wrote < stamp → All (λ v. v.wrote < stamp → v.wrote ≤ x.wrote) versions → version_before stamp versions ≡ Some x
+pub version_before-is : (stamp : ℕ) (versions : List Version) (x : Version) → AscendsByStamp versions → Contains versions x → x.wrote < stamp → All (λ v. v.wrote < stamp → v.wrote ≤ x.wrote) versions → version_before stamp versions ≡ Some x
 version_before-is stamp [] x up (k, lt, is) below greatest = absurd (omega arith)
 version_before-is stamp (version ∷ versions) x up (zero, lt, is) below greatest =
     let e : ltb version.wrote stamp ≡ true = lt-ltb version.wrote stamp (omega (arith, ap (λ v. v.wrote) is)) in

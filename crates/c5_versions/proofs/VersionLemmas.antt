@@ -5,25 +5,25 @@ use Rattle.std.specs.List.{All, AllWithin}
 use Rattle.std.proofs.lemmas.Bool.{cases_lt, cases_order}
 use Rattle.std.proofs.lemmas.List.Elements.{All-tail}
 use Rattle.c5_versions.specs.declared.versions.Version.{Version}
-use Rattle.c5_versions.specs.Versions.{IsBelowFirst, IsAscending, BeginsAtZero, IsVersions, version_before, with_reader, mark_version, put_version}
+use Rattle.c5_versions.specs.Versions.{IsBelowFirstStamp, AscendsByStamp, BeginsAtZero, IsVersions, version_before, with_reader, mark_version, put_version}
 
 -- ---- the order
 
 -- a stamp below the first is below each
-pub first_below : (stamp : ℕ) (versions : List Version) → IsBelowFirst stamp versions → IsAscending versions → (k : ℕ) (d : Version) → k < length versions → stamp < (get_or versions k d).wrote
+pub first_below : (stamp : ℕ) (versions : List Version) → IsBelowFirstStamp stamp versions → AscendsByStamp versions → (k : ℕ) (d : Version) → k < length versions → stamp < (get_or versions k d).wrote
 first_below stamp [] below up k d lt = absurd (omega arith)
 first_below stamp (version ∷ versions) below up zero d lt = below
 first_below stamp (version ∷ versions) below up (suc k) d lt =
     omega (arith, below, first_below version.wrote versions up.0 up.1 k d (omega arith))
 
 -- of two versions the earlier one has the smaller stamp
-pub far_below : (versions : List Version) (i j : ℕ) (d e : Version) → IsAscending versions → i < j → j < length versions → (get_or versions i d).wrote < (get_or versions j e).wrote
+pub far_below : (versions : List Version) (i j : ℕ) (d e : Version) → AscendsByStamp versions → i < j → j < length versions → (get_or versions i d).wrote < (get_or versions j e).wrote
 far_below [] i j d e up lt within = absurd (omega arith)
 far_below (version ∷ versions) i zero d e up lt within = absurd (omega arith)
 far_below (version ∷ versions) zero (suc j) d e up lt within = first_below version.wrote versions up.0 up.1 j e (omega arith)
 far_below (version ∷ versions) (suc i) (suc j) d e up lt within = far_below versions i j d e up.1 (omega arith) (omega arith)
 
-pub not_above : (versions : List Version) (i j : ℕ) (d e : Version) → IsAscending versions → i ≤ j → j < length versions → (get_or versions i d).wrote ≤ (get_or versions j e).wrote
+pub not_above : (versions : List Version) (i j : ℕ) (d e : Version) → AscendsByStamp versions → i ≤ j → j < length versions → (get_or versions i d).wrote ≤ (get_or versions j e).wrote
 not_above [] i j d e up le within = absurd (omega arith)
 not_above (version ∷ versions) zero zero d e up le within = omega arith
 not_above (version ∷ versions) (suc i) zero d e up le within = absurd (omega arith)
@@ -56,7 +56,7 @@ version_before-at stamp (version ∷ versions) (suc i) d lt low high =
     rw (e, found) refl
 
 -- no other version below the stamp is above the last of them
-pub greatest_at : (stamp : ℕ) (versions : List Version) (i : ℕ) (d : Version) → IsAscending versions → i < length versions → AllWithin (λ v. stamp ≤ v.wrote) versions (i + 1) (length versions) → All (λ v. v.wrote < stamp → v.wrote ≤ (get_or versions i d).wrote) versions
+pub greatest_at : (stamp : ℕ) (versions : List Version) (i : ℕ) (d : Version) → AscendsByStamp versions → i < length versions → AllWithin (λ v. stamp ≤ v.wrote) versions (i + 1) (length versions) → All (λ v. v.wrote < stamp → v.wrote ≤ (get_or versions i d).wrote) versions
 greatest_at stamp versions i d up lt high k e within below =
     elim (cases_lt i k) [
       | inl after ↦ absurd (omega (arith, below, high k e (omega arith) within))
@@ -78,7 +78,7 @@ map_at f (version ∷ versions) (suc i) d lt stays =
     rw (stays 0 version (omega arith) (λ q. absurd (omega arith)))
     (ap (λ vs. version ∷ vs) (map_at f versions i d (omega arith) (λ k e p apart. stays (suc k) e (omega arith) (λ q. apart (omega arith)))))
 
-pub mark_version-at : (stamp : ℕ) (versions : List Version) (i : ℕ) (x : Version) → IsAscending versions → i < length versions → x ≡ get_or versions i x → version_before stamp versions ≡ Some x → set versions i (record x { read_by = max x.read_by stamp }) ≡ mark_version stamp versions
+pub mark_version-at : (stamp : ℕ) (versions : List Version) (i : ℕ) (x : Version) → AscendsByStamp versions → i < length versions → x ≡ get_or versions i x → version_before stamp versions ≡ Some x → set versions i (record x { read_by = max x.read_by stamp }) ≡ mark_version stamp versions
 mark_version-at stamp versions i x up lt is found =
     let f : Version → Version = with_reader stamp (Some x) in
     let other : (k : ℕ) (e : Version) → k < length versions → (k ≡ i → ⊥) → f (get_or versions k e) ≡ get_or versions k e = λ k e within apart.
@@ -100,7 +100,7 @@ BeginsAtZero-map : (f : Version → Version) → ((v : Version) → (f v).wrote 
 BeginsAtZero-map f keeps [] begins = begins
 BeginsAtZero-map f keeps (version ∷ versions) begins = keeps version ∙ begins
 
-IsAscending-map : (f : Version → Version) → ((v : Version) → (f v).wrote ≡ v.wrote) → (versions : List Version) → IsAscending versions → IsAscending (map f versions)
+IsAscending-map : (f : Version → Version) → ((v : Version) → (f v).wrote ≡ v.wrote) → (versions : List Version) → AscendsByStamp versions → AscendsByStamp (map f versions)
 IsAscending-map f keeps [] up = tt
 IsAscending-map f keeps (version ∷ []) up = (tt, tt)
 IsAscending-map f keeps (version ∷ next ∷ versions) up =
@@ -127,12 +127,12 @@ put_version-gap new (version ∷ versions) (suc i) le low high absent =
     let e : ltb new.wrote version.wrote ≡ false = le-ltb new.wrote version.wrote (omega arith) in
     rw e (ap (λ vs. version ∷ vs) (put_version-gap new versions i (omega arith) (λ k d p q. low (suc k) d (omega arith) (omega arith)) (λ k d p q. high (suc k) d (omega arith) (omega arith)) (All-tail (λ v. ¬ (v.wrote ≡ new.wrote)) version versions absent)))
 
-below_put : (stamp : ℕ) (new : Version) (versions : List Version) → IsBelowFirst stamp versions → stamp < new.wrote → IsBelowFirst stamp (put_version new versions)
+below_put : (stamp : ℕ) (new : Version) (versions : List Version) → IsBelowFirstStamp stamp versions → stamp < new.wrote → IsBelowFirstStamp stamp (put_version new versions)
 below_put stamp new [] below lt = lt
 below_put stamp new (version ∷ versions) below lt =
-    elim (ltb new.wrote version.wrote) as (λ b. IsBelowFirst stamp (cond b (new ∷ version ∷ versions) (version ∷ put_version new versions))) [ true ↦ lt | false ↦ below ]
+    elim (ltb new.wrote version.wrote) as (λ b. IsBelowFirstStamp stamp (cond b (new ∷ version ∷ versions) (version ∷ put_version new versions))) [ true ↦ lt | false ↦ below ]
 
-IsAscending-put : (new : Version) (versions : List Version) → All (λ v. ¬ (v.wrote ≡ new.wrote)) versions → IsAscending versions → IsAscending (put_version new versions)
+IsAscending-put : (new : Version) (versions : List Version) → All (λ v. ¬ (v.wrote ≡ new.wrote)) versions → AscendsByStamp versions → AscendsByStamp (put_version new versions)
 IsAscending-put new [] absent up = (tt, tt)
 IsAscending-put new (version ∷ versions) absent up =
     let apart = absent 0 version (omega arith) in

@@ -1,6 +1,7 @@
 //! The versions of one row.
 
-ghost use Rattle.std.specs.Prelude.{◌≡◌, ◌<◌, ◌≤◌, ◌+◌, [], ◌∷◌, Some, length, vec_len, vec_capacity, IfOk, OnOk, OnErr, IsOk};
+ghost use Rattle.std.specs.Prelude.{◌≡◌, ◌<◌, ◌≤◌, ◌+◌, [], ◌∷◌, Some, length, vec_len};
+ghost use Rattle.std.specs.Prelude.{vec_capacity, IfOk, OnOk, OnErr, IsOk};
 ghost use Rattle.std.specs.List.{All, Contains};
 ghost use Rattle.std.specs.List.Sorted.{IsPartitionPoint};
 
@@ -31,18 +32,23 @@ impl Model for Versions {
 
     ghost Value = { VersionList };
 
-    ghost view = { λ v. record { versions = v.versions.items; spare = vec_capacity v.versions - vec_len v.versions } };
+    ghost view = { λ v. record {
+      versions = v.versions.items;
+      spare = vec_capacity v.versions - vec_len v.versions;
+    } };
 
     ghost invariant = { λ v. IsVersions v.versions.items };
 }
 
-ghost use Rattle.c5_versions.specs.Versions.{IsAscending, IsVersions, version_before, mark_version, put_version};
+ghost use Rattle.c5_versions.specs.Versions.{AscendsByStamp, IsVersions, version_before};
+ghost use Rattle.c5_versions.specs.Versions.{mark_version, put_version};
 
 // How many of the versions are below the stamp: that many at the front.
 fn count_below(versions: &[Version], stamp: u64) -> usize
-    requires { IsAscending versions.now }
+    requires { AscendsByStamp versions.now }
     ensures bound { result ≤ length versions.now }
-    ensures place { IsPartitionPoint (λ v. v.wrote < stamp) (λ v. stamp ≤ v.wrote) versions.now result }
+    ensures place { IsPartitionPoint (λ v. v.wrote < stamp)
+        (λ v. stamp ≤ v.wrote) versions.now result }
 {
     match versions.last() {
         Some(last) if stamp <= last.wrote => {
@@ -58,7 +64,8 @@ fn place_before(versions: &[Version], stamp: u64) -> usize
     requires proper { IsVersions versions.now }
     requires positive { 1 ≤ stamp }
     ensures bound { result < length versions.now }
-    ensures place { IsPartitionPoint (λ v. v.wrote < stamp) (λ v. stamp ≤ v.wrote) versions.now (result + 1) }
+    ensures place { IsPartitionPoint (λ v. v.wrote < stamp) (λ v. stamp ≤ v.wrote) versions.now
+        (result + 1) }
 {
     count_below(versions, stamp) - 1
 }
@@ -105,7 +112,8 @@ fn put(versions: &mut Vec<Version>, version: Version)
 impl Versions {
     /// One version with `wrote` 0 and `read_by` 0: the row at the start.
     pub fn new(alloc: Global, first: Change) -> Result<Versions, NoMemory>
-        ensures { IfOk result (λ v. v.versions ≡ record { wrote = 0; read_by = 0; change = first } ∷ []) }
+        ensures { IfOk result (λ v. v.versions
+            ≡ record { wrote = 0; read_by = 0; change = first } ∷ []) }
     {
         let mut versions = Vec::with_capacity(alloc, 1)?;
         versions.push(Version {
@@ -122,7 +130,8 @@ impl Versions {
         ensures found { version_before stamp self.now.versions ≡ Some result.now }
         ensures stands { Contains self.now.versions result.now }
         ensures below { result.now.wrote < stamp }
-        ensures greatest { All (λ v. v.wrote < stamp → v.wrote ≤ result.now.wrote) self.now.versions }
+        ensures greatest { All (λ v. v.wrote < stamp
+            → v.wrote ≤ result.now.wrote) self.now.versions }
     {
         find(&self.versions, stamp)
     }
@@ -154,7 +163,9 @@ impl Versions {
         requires room { 1 ≤ self.old.spare }
         requires positive { 1 ≤ stamp }
         requires absent { All (λ v. ¬ (v.wrote ≡ stamp)) self.old.versions }
-        ensures versions { self.new.versions ≡ put_version (record { wrote = stamp; read_by = 0; change = change }) self.old.versions }
+        ensures versions { self.new.versions
+            ≡ put_version
+            (record { wrote = stamp; read_by = 0; change = change }) self.old.versions }
         ensures spare { self.old.spare ≤ self.new.spare + 1 }
     {
         put(

@@ -7,7 +7,7 @@ use Rattle.c5_definitions.specs.WriteNumbers.{row_of, predecessor_of, last_on_ro
 use Rattle.c5_definitions.specs.NumberLaws.{RowsAreNumbered, PredecessorsAreLast, IsLastOnRow}
 use Rattle.c5_board.specs.declared.known.Record.{Record}
 use Rattle.c5_board.specs.Boards.{Pass, names, record_of}
-use Rattle.c5_workers.specs.Scheduling.{IsLastOfEach, IsReady}
+use Rattle.c5_workers.specs.Scheduling.{IsLastOfEach, IsReadyToRecord}
 
 one_more : (a b : ℕ) → suc a ≤ b → (b ≢ 0 → b ≤ suc a) → suc a ≡ b
 one_more a b h down = let l = down (λ q. absurd (omega arith)) in omega arith
@@ -92,11 +92,11 @@ module _ (ns : List RowName) (numbered : RowsAreNumbered ns) (laws : Predecessor
           get_or-set_other last (row - 1) (r - 1) w 0 places ∙ kept.each r first
           ∙ ap (last_on_row ns r) (let q : n ≡ w - 1 = omega arith in q) ∙ last-other r w first write.positive (λ q. apart (sym (is ∙ q)))
 
-pub ready_write : (p : Pass) (last : List ℕ) (w row : ℕ) → IsReady p last w row → IsWrite (names p.board) w
+pub ready_write : (p : Pass) (last : List ℕ) (w row : ℕ) → IsReadyToRecord p last w row → IsWrite (names p.board) w
 ready_write p last w row ready = let is = ready.next in record { positive = omega arith; within = ready.within }
 
 -- the place of the row
-pub ready-row : (p : Pass) (last : List ℕ) (w row : ℕ) → RowsAreNumbered (names p.board) → IsReady p last w row → (1 ≤ row) × (row ≤ length last)
+pub ready-row : (p : Pass) (last : List ℕ) (w row : ℕ) → RowsAreNumbered (names p.board) → IsReadyToRecord p last w row → (1 ≤ row) × (row ≤ length last)
 ready-row p last w row numbered ready =
     let is = ready.is_row in
     let first = numbered.first w (ready_write p last w row ready) in

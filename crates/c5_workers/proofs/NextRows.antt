@@ -8,7 +8,7 @@ use Rattle.c5_definitions.specs.WriteNumbers.{name_at, row_of, IsWrite, IsFirstW
 use Rattle.c5_definitions.specs.RowIndex.{IsSlot}
 use Rattle.c5_definitions.specs.NumberLaws.{RowsAreNumbered}
 use Rattle.c5_board.specs.Boards.{Board, Pass, names, write_count}
-use Rattle.c5_chains.specs.Finds.{IsRowOf, IsFree}
+use Rattle.c5_chains.specs.Finds.{IsNumberOfRow, IsFree}
 use Rattle.c5_chains.specs.Paths.{FollowsPath}
 use Rattle.c5_chains.proofs.Naming.{name_at-write}
 use Rattle.c5_chains.proofs.OnPaths.{same-names}
@@ -29,14 +29,14 @@ module _ (p : Pass) (w : ℕ) (name : RowName) (numbered : RowsAreNumbered (name
   next-write : IsWrite (names p.board) w
   next-write = next_write p w next
 
-  found-row : (row : ℕ) → IsRowOf p name row → row ≡ row_of (names p.board) w
+  found-row : (row : ℕ) → IsNumberOfRow p name row → row ≡ row_of (names p.board) w
   found-row row found = sym found.first.first ∙ numbered.one_row row w found.first.write next-write (found.named ∙ sym named)
 
-  found-below : (row : ℕ) → IsRowOf p name row → row < w
+  found-below : (row : ℕ) → IsNumberOfRow p name row → row < w
   found-below row found = let own = found.own next.role in let is = next.next in let low = next.indexed in omega arith
 
   -- a row that is found was written before
-  pub placed-found : (new : Pass) (rows row : ℕ) → IsRowOf p name row → FollowsPath p new name (Some row) → PlacesRow p new w rows row
+  pub placed-found : (new : Pass) (rows row : ℕ) → IsNumberOfRow p name row → FollowsPath p new name (Some row) → PlacesRow p new w rows row
   placed-found new rows row found path =
       let is = found-row row found in
       let below = found-below row found in

@@ -10,7 +10,7 @@ use Rattle.c5_definitions.specs.WriteNumbers.{owner_of, predecessor_of, IsWrite}
 use Rattle.c5_definitions.specs.NumberLaws.{NumbersAreOwned}
 use Rattle.c5_workers.proofs.LastRows.{not_same}
 use Rattle.c5_board.specs.declared.known.Look.{Look}
-use Rattle.c5_board.specs.Sets.{has}
+use Rattle.c5_rows.specs.Numbers.{is_among}
 use Rattle.c5_board.specs.Boards.{Board, Pass, names}
 use Rattle.c5_chains.specs.declared.install.Install.{Install}
 use Rattle.c5_chains.specs.declared.install.Install.TheVariants.{Installed, PutOff}
@@ -19,13 +19,13 @@ use Rattle.c5_workers.specs.Tries.{Ascends, IsWaiting, HasTried, FitsList, Tries
 
 -- ---- lists
 
-has-middle : (v w : ℕ) (front rest : List ℕ) → (v ≡ w → ⊥) → has v (front ++ w ∷ rest) ≡ has v (front ++ rest)
-has-middle v w [] rest d = ap (λ (b : Bool). b || has v rest) (ne_eqb v w d)
+has-middle : (v w : ℕ) (front rest : List ℕ) → (v ≡ w → ⊥) → is_among v (front ++ w ∷ rest) ≡ is_among v (front ++ rest)
+has-middle v w [] rest d = ap (λ (b : Bool). b || is_among v rest) (ne_eqb v w d)
 has-middle v w (x ∷ front) rest d = ap (λ (b : Bool). eqb v x || b) (has-middle v w front rest d)
 
-has-self : (w : ℕ) (front rest : List ℕ) → has w (front ++ w ∷ rest) ≡ true
-has-self w [] rest = ap (λ (b : Bool). b || has w rest) (eq-eqb w w refl)
-has-self w (x ∷ front) rest = or_true (eqb w x) (has w (front ++ w ∷ rest)) (has-self w front rest)
+has-self : (w : ℕ) (front rest : List ℕ) → is_among w (front ++ w ∷ rest) ≡ true
+has-self w [] rest = ap (λ (b : Bool). b || is_among w rest) (eq-eqb w w refl)
+has-self w (x ∷ front) rest = or_true (eqb w x) (is_among w (front ++ w ∷ rest)) (has-self w front rest)
   where
     or_true : (a b : Bool) → b ≡ true → (a || b) ≡ true
     or_true true b h = refl
@@ -35,11 +35,11 @@ all-middle : (P : ℕ → Type 0) (w : ℕ) (front rest : List ℕ) → AllByRec
 all-middle P w [] rest h = (h.0, h.1)
 all-middle P w (x ∷ front) rest h = let r = all-middle P w front rest h.1 in (r.0, (h.0, r.1))
 
-below-none : (w : ℕ) (rest : List ℕ) → AllByRecursion (λ m. w < m) rest → has w rest ≡ false
+below-none : (w : ℕ) (rest : List ℕ) → AllByRecursion (λ m. w < m) rest → is_among w rest ≡ false
 below-none w [] h = refl
 below-none w (x ∷ rest) h = (λ i. ne_eqb w x (λ e. let l = h.0 in absurd (omega arith)) i || below-none w rest h.1 i)
 
-ascends-middle : (w : ℕ) (front rest : List ℕ) → Ascends (front ++ w ∷ rest) → Ascends (front ++ rest) × (has w (front ++ rest) ≡ false)
+ascends-middle : (w : ℕ) (front rest : List ℕ) → Ascends (front ++ w ∷ rest) → Ascends (front ++ rest) × (is_among w (front ++ rest) ≡ false)
 ascends-middle w [] rest h = (h.1, below-none w rest h.0)
 ascends-middle w (x ∷ front) rest h =
     let r = ascends-middle w front rest h.1 in
@@ -50,7 +50,7 @@ ascends-middle w (x ∷ front) rest h =
 
 -- what the worker knows of a number that it has put off
 pub waiting-at : (workers : ℕ) (ns : List RowName) (roles installed : List ℕ) (scheduled i next w : ℕ) (front rest : List ℕ) → HasTried workers ns roles installed scheduled i next (front ++ w ∷ rest)
-    → IsWaiting workers ns scheduled i next w × (has w installed ≡ false)
+    → IsWaiting workers ns scheduled i next w × (is_among w installed ≡ false)
 waiting-at workers ns roles installed scheduled i next w front rest fits =
     let w_is = (all-middle (IsWaiting workers ns scheduled i next) w front rest fits.waiting).0 in (
       w_is,
@@ -73,15 +73,15 @@ fits-installed workers ns roles installed scheduled i next w front rest fits =
       done = λ v write owned. by v write owned (eqb v w) refl;
     }
   where
-    by : (v : ℕ) → IsWrite ns v → owner_of workers v ≡ i → (t : Bool) → eqb v w ≡ t → (eqb v w || has v installed) ≡ (ltb v next && not (has v (front ++ rest)))
+    by : (v : ℕ) → IsWrite ns v → owner_of workers v ≡ i → (t : Bool) → eqb v w ≡ t → (eqb v w || is_among v installed) ≡ (ltb v next && not (is_among v (front ++ rest)))
     by v write owned true e =
         let same = eqb-true v w e in
         let none = (ascends-middle w front rest fits.ascends).1 in
         let below = (all-middle (IsWaiting workers ns scheduled i next) w front rest fits.waiting).0.below in
         let less : v < next = omega arith in
-        (λ j. e j || has v installed) ∙ (λ j. sym (lt-ltb v next less) j && not (sym none j)) ∙ (λ j. ltb v next && not (has (sym same j) (front ++ rest)))
+        (λ j. e j || is_among v installed) ∙ (λ j. sym (lt-ltb v next less) j && not (sym none j)) ∙ (λ j. ltb v next && not (is_among (sym same j) (front ++ rest)))
     by v write owned false e =
-        (λ j. e j || has v installed) ∙ fits.done v write owned ∙ (λ j. ltb v next && not (has-middle v w front rest (eqb-false v w e) j))
+        (λ j. e j || is_among v installed) ∙ fits.done v write owned ∙ (λ j. ltb v next && not (has-middle v w front rest (eqb-false v w e) j))
 
 -- the pass after a try
 tried-installed : (p : Pass) (w : ℕ) → (looks : List Look) × (tried p w (head_found (names p.board) w Installed) ≡ record p { installed = w ∷ p.installed; looks = looks })
@@ -167,7 +167,7 @@ module _ (old now : Pass) (i next : ℕ) (before list : List ℕ) (place kept : 
   fits_now = subst (λ (l : List ℕ). FitsList i next l now) current h.fits
 
   -- what the try needs
-  pub retry-ready : IsWaiting now.board.workers (names now.board) now.scheduled i next (get_or list place 0) × (has (get_or list place 0) now.installed ≡ false)
+  pub retry-ready : IsWaiting now.board.workers (names now.board) now.scheduled i next (get_or list place 0) × (is_among (get_or list place 0) now.installed ≡ false)
   retry-ready = waiting-at now.board.workers (names now.board) now.roles now.installed now.scheduled i next (get_or list place 0) (take kept list) (drop (place + 1) list) fits_now
 
   tries-next : (new : Pass) (result : Install) → IsCaused now (get_or list place 0) result → new ≡ tried now (get_or list place 0) (head_found (names now.board) (get_or list place 0) result)
@@ -240,7 +240,7 @@ ascends-append : (w : ℕ) (list : List ℕ) → Ascends list → AllByRecursion
 ascends-append w [] up below = (tt, tt)
 ascends-append w (x ∷ list) up below = (all-append (λ m. x < m) w list up.0 below.0, ascends-append w list up.1 below.1)
 
-none-above : (w : ℕ) (list : List ℕ) → AllByRecursion (λ m. m < w) list → has w list ≡ false
+none-above : (w : ℕ) (list : List ℕ) → AllByRecursion (λ m. m < w) list → is_among w list ≡ false
 none-above w [] h = refl
 none-above w (x ∷ list) h = (λ i. ne_eqb w x (λ e. let l = h.0 in absurd (omega arith)) i || none-above w list h.1 i)
 
@@ -253,12 +253,12 @@ module _ (workers : ℕ) (ns : List RowName) (roles installed : List ℕ) (sched
   below-next [] h = tt
   below-next (x ∷ list) h = (h.0.below, below-next list h.1)
 
-  next-apart : has next list ≡ false
+  next-apart : is_among next list ≡ false
   next-apart = none-above next list (below-next list fits.waiting)
 
   -- the role of worker i, and that its next number isn't installed
-  pub next-new : IsWrite ns next → has next installed ≡ false
-  next-new write = fits.done next write fits.owned ∙ (λ j. le-ltb next next (le_self next) j && not (has next list))
+  pub next-new : IsWrite ns next → is_among next installed ≡ false
+  next-new write = fits.done next write fits.owned ∙ (λ j. le-ltb next next (le_self next) j && not (is_among next list))
     where
       le_self : (n : ℕ) → n ≤ n
       le_self n = omega arith
@@ -290,14 +290,14 @@ module _ (workers : ℕ) (ns : List RowName) (roles installed : List ℕ) (sched
     done = λ v is owned. by v is owned (eqb v next) refl;
   }
     where
-      by : (v : ℕ) → IsWrite ns v → owner_of workers v ≡ i → (t : Bool) → eqb v next ≡ t → (eqb v next || has v installed) ≡ (ltb v (next + workers) && not (has v list))
+      by : (v : ℕ) → IsWrite ns v → owner_of workers v ≡ i → (t : Bool) → eqb v next ≡ t → (eqb v next || is_among v installed) ≡ (ltb v (next + workers) && not (is_among v list))
       by v is owned true e =
           let same = eqb-true v next e in
           let some = some_workers in
           let less : v < next + workers = omega arith in
-          (λ j. e j || has v installed) ∙ (λ j. sym (lt-ltb v (next + workers) less) j && not (sym next-apart j)) ∙ (λ j. ltb v (next + workers) && not (has (sym same j) list))
+          (λ j. e j || is_among v installed) ∙ (λ j. sym (lt-ltb v (next + workers) less) j && not (sym next-apart j)) ∙ (λ j. ltb v (next + workers) && not (is_among (sym same j) list))
       by v is owned false e =
-          (λ j. e j || has v installed) ∙ fits.done v is owned ∙ (λ j. sym (below-later v is owned (eqb-false v next e)) j && not (has v list))
+          (λ j. e j || is_among v installed) ∙ fits.done v is owned ∙ (λ j. sym (below-later v is owned (eqb-false v next e)) j && not (is_among v list))
 
   pub next-put_off : IsWrite ns next → next ≤ scheduled → HasTried workers ns roles installed scheduled i (next + workers) (list ++ next ∷ [])
   next-put_off write up_to = record {
@@ -310,26 +310,26 @@ module _ (workers : ℕ) (ns : List RowName) (roles installed : List ℕ) (sched
     done = λ v is owned. by v is owned (eqb v next) refl;
   }
     where
-      by : (v : ℕ) → IsWrite ns v → owner_of workers v ≡ i → (t : Bool) → eqb v next ≡ t → has v installed ≡ (ltb v (next + workers) && not (has v (list ++ next ∷ [])))
+      by : (v : ℕ) → IsWrite ns v → owner_of workers v ≡ i → (t : Bool) → eqb v next ≡ t → is_among v installed ≡ (ltb v (next + workers) && not (is_among v (list ++ next ∷ [])))
       by v is owned true e =
           let same = eqb-true v next e in
-          ap (λ (k : ℕ). has k installed) same ∙ next-new write
-          ∙ sym (both_false (ltb v (next + workers))) ∙ (λ j. ltb v (next + workers) && not (sym (has-self next list []) j)) ∙ (λ j. ltb v (next + workers) && not (has (sym same j) (list ++ next ∷ [])))
+          ap (λ (k : ℕ). is_among k installed) same ∙ next-new write
+          ∙ sym (both_false (ltb v (next + workers))) ∙ (λ j. ltb v (next + workers) && not (sym (has-self next list []) j)) ∙ (λ j. ltb v (next + workers) && not (is_among (sym same j) (list ++ next ∷ [])))
         where
           both_false : (a : Bool) → (a && false) ≡ false
           both_false true = refl
           both_false false = refl
       by v is owned false e =
           fits.done v is owned
-          ∙ (λ j. sym (below-later v is owned (eqb-false v next e)) j && not (has v (sym (append-nil list) j)))
+          ∙ (λ j. sym (below-later v is owned (eqb-false v next e)) j && not (is_among v (sym (append-nil list) j)))
           ∙ (λ j. ltb v (next + workers) && not (sym (has-middle v next list [] (eqb-false v next e)) j))
 
 -- what the least number that isn't installed is
 pub record IsLeastLeft (workers : ℕ) (installed : List ℕ) (i w : ℕ) : Type 0 where
   pub positive : 1 ≤ w
   pub owned : owner_of workers w ≡ i
-  pub not_installed : has w installed ≡ false
-  pub least : (v : ℕ) → 1 ≤ v → v < w → owner_of workers v ≡ i → has v installed ≡ true
+  pub not_installed : is_among w installed ≡ false
+  pub least : (v : ℕ) → 1 ≤ v → v < w → owner_of workers v ≡ i → is_among v installed ≡ true
 
 above-all : (v x : ℕ) (rest : List ℕ) → v < x → AllByRecursion (λ m. x < m) rest → AllByRecursion (λ m. v < m) rest
 above-all v x [] less h = tt
@@ -339,16 +339,16 @@ never_true : (b : Bool) → (b ≡ true → ⊥) → b ≡ false
 never_true true h = absurd (h refl)
 never_true false h = refl
 
-done-below : (workers : ℕ) (ns : List RowName) (roles installed : List ℕ) (scheduled i next v : ℕ) (list : List ℕ) → HasTried workers ns roles installed scheduled i next list → IsWrite ns v → owner_of workers v ≡ i → v < next → has v list ≡ false → has v installed ≡ true
+done-below : (workers : ℕ) (ns : List RowName) (roles installed : List ℕ) (scheduled i next v : ℕ) (list : List ℕ) → HasTried workers ns roles installed scheduled i next list → IsWrite ns v → owner_of workers v ≡ i → v < next → is_among v list ≡ false → is_among v installed ≡ true
 done-below workers ns roles installed scheduled i next v list fits write owned less apart = fits.done v write owned ∙ (λ j. lt-ltb v next less j && not (apart j))
 
 -- the first of the list, or the next number, is the least that isn't installed
 pub least-left : (workers : ℕ) (ns : List RowName) (roles installed : List ℕ) (scheduled i next : ℕ) (list : List ℕ) → NumbersAreOwned workers → HasTried workers ns roles installed scheduled i next list
-    → ((w : ℕ) → has w installed ≡ true → IsWrite ns w) → IsLeastLeft workers installed i (least_of list next)
+    → ((w : ℕ) → is_among w installed ≡ true → IsWrite ns w) → IsLeastLeft workers installed i (least_of list next)
 least-left workers ns roles installed scheduled i next [] owners fits writes = record {
   positive = fits.positive;
   owned = fits.owned;
-  not_installed = never_true (has next installed) (λ h. true≢false (sym h ∙ next-new workers ns roles installed scheduled i next [] owners fits (writes next h)));
+  not_installed = never_true (is_among next installed) (λ h. true≢false (sym h ∙ next-new workers ns roles installed scheduled i next [] owners fits (writes next h)));
   least = λ v some less owned.
       let far = owners.none_between v next some less (owned ∙ sym fits.owned) in
       let bound = fits.bound in

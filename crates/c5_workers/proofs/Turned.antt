@@ -11,8 +11,8 @@ use Rattle.c5_definitions.specs.NumberLaws.{RowsAreNumbered, PredecessorsAreLast
 use Rattle.c5_board.specs.declared.known.Look.{Look}
 use Rattle.c5_board.specs.Boards.{Board, Pass, names, write_count}
 use Rattle.c5_workers.specs.declared.scheduler.Scheduler.{Scheduler}
-use Rattle.c5_workers.specs.Scheduling.{rows_with, first_write_count, IsLastOfEach, IsNext, IsReady, LooksUp, PlacesRow, indexed_with}
-use Rattle.c5_workers.specs.Schedules.{FitsSchedule, Schedules, OnlySchedules, IsFull, SchedulesAll}
+use Rattle.c5_workers.specs.Scheduling.{rows_with, first_write_count, IsLastOfEach, IsNext, IsReadyToRecord, LooksUp, PlacesRow, indexed_with}
+use Rattle.c5_workers.specs.Schedules.{FitsSchedule, Schedules, OnlySchedules, IsFullOfRows, SchedulesAll}
 use Rattle.c5_workers.specs.declared.schedule_turn.ScheduleEnd.TheVariants as ends
 use Rattle.c5_workers.proofs.LastRows.{not_same, last-none}
 
@@ -31,10 +31,10 @@ module _ (s : Scheduler) (p mid : Pass) (w row : ℕ) (fits : FitsSchedule s p) 
   first-row : row ≡ w → IsFirstWrite (names p.board) w
   first-row e = let is = next.next in record { write = record { positive = omega arith; within = next.within }; first = sym placed.is_row ∙ e }
 
-  pub ready-of : (last : List ℕ) → last ≡ s.last.items → IsReady mid last w row
+  pub ready-of : (last : List ℕ) → last ≡ s.last.items → IsReadyToRecord mid last w row
   ready-of last kept =
       let is = placed-pass p mid w s.rows row placed in
-      let ready : IsReady (record p { indexed = indexed_with (names p.board) w p.indexed; looks = is.0 }) last w row =
+      let ready : IsReadyToRecord (record p { indexed = indexed_with (names p.board) w p.indexed; looks = is.0 }) last w row =
       record {
         role = next.role;
         written = next.written;
@@ -44,7 +44,7 @@ module _ (s : Scheduler) (p mid : Pass) (w row : ℕ) (fits : FitsSchedule s p) 
         indexed = λ first. (λ i. if eq-eqb (row_of (names p.board) w) w first.first i then w else p.indexed);
         kept = subst (λ (l : List ℕ). IsLastOfEach (names p.board) l p.scheduled) (sym kept) fits.last;
       } in
-      subst (λ (q : Pass). IsReady q last w row) (sym is.1) ready
+      subst (λ (q : Pass). IsReadyToRecord q last w row) (sym is.1) ready
 
   pub scheduled-next : (new : Pass) → new ≡ record mid { written = w; scheduled = w } → Schedules p new w
   scheduled-next new is = record {
@@ -131,7 +131,7 @@ count-rises ns m (suc n) h = by (eq-or-lt_of_le h) (λ less. count-rises ns m n 
 count-first : (ns : List RowName) (n : ℕ) → row_of ns (suc n) ≡ suc n → first_write_count ns (suc n) ≡ first_write_count ns n + 1
 count-first ns n first = λ i. if eq-eqb (row_of ns (suc n)) (suc n) first i then first_write_count ns n + 1 else first_write_count ns n
 
-too_many-rows : (p : Pass) → IsFull p → 65536 < first_write_count (names p.board) (write_count p.board)
+too_many-rows : (p : Pass) → IsFullOfRows p → 65536 < first_write_count (names p.board) (write_count p.board)
 too_many-rows p full =
     let within = full.first.write.within in
     let is : p.scheduled + 1 ≡ suc p.scheduled = omega arith in
@@ -140,12 +140,12 @@ too_many-rows p full =
     let most = full.full in
     omega arith
 
-pub ends-full : (old mid new : Pass) → OnlySchedules old mid → IsFull mid → LooksUp mid new (mid.scheduled + 1) → SchedulesAll old new ends.Rows
+pub ends-full : (old mid new : Pass) → OnlySchedules old mid → IsFullOfRows mid → LooksUp mid new (mid.scheduled + 1) → SchedulesAll old new ends.Rows
 ends-full old mid new only full looks =
     let is = looks.path.pass in
-    let kept : IsFull (record mid { looks = new.looks }) = record { first = full.first; full = full.full } in
+    let kept : IsFullOfRows (record mid { looks = new.looks }) = record { first = full.first; full = full.full } in
     let same : new ≡ record mid { looks = new.looks } = is ∙ (λ i. record mid { looks = ap (λ (p : Pass). p.looks) (sym is) i }) in
-    let full_new : IsFull new = subst IsFull (sym same) kept in
+    let full_new : IsFullOfRows new = subst IsFullOfRows (sym same) kept in
     record {
       only =
           same ∙ (λ i. record (only i) { looks = new.looks })

@@ -7,7 +7,7 @@ use Rattle.std.specs.List.{AllByRecursion}
 use Rattle.c5_rows.specs.declared.writes.RowName.{RowName}
 use Rattle.c5_definitions.specs.WriteNumbers.{owner_of, IsWrite}
 use Rattle.c5_definitions.specs.NumberLaws.{NumbersAreOwned}
-use Rattle.c5_board.specs.Sets.{has}
+use Rattle.c5_rows.specs.Numbers.{is_among}
 use Rattle.c5_board.specs.Boards.{Board, Pass, names, write_count, IsWorker}
 use Rattle.c5_board.specs.Passes.{IsSound, IsOutstanding, owner_in}
 use Rattle.c5_chains.specs.declared.install.Install.{Install}
@@ -92,7 +92,7 @@ outstanding w p owners sound fits =
     record { positive = left.positive; owned = left.owned; not_installed = left.not_installed; least = left.least }
 
 -- a new worker
-pub fits-unworked : (w : Worker) (p : Pass) (i workers : ℕ) → NumbersAreOwned workers → IsWorker workers i → workers ≤ 16 → IsNewWorker w i workers → p.board.workers ≡ workers → has i p.roles ≡ true → ((v : ℕ) → owner_in p v ≡ i → has v p.installed ≡ false) → FitsWorker w p
+pub fits-unworked : (w : Worker) (p : Pass) (i workers : ℕ) → NumbersAreOwned workers → IsWorker workers i → workers ≤ 16 → IsNewWorker w i workers → p.board.workers ≡ workers → is_among i p.roles ≡ true → ((v : ℕ) → owner_in p v ≡ i → is_among v p.installed ≡ false) → FitsWorker w p
 fits-unworked w p i workers owners worker few new of role none =
     let list : FitsList i i [] p = record {
       role = role;

@@ -8,48 +8,66 @@ use Rattle.c5_workers.specs.declared.schedule_turn.ScheduleTurn.TheVariants as t
 use Rattle.c5_workers.specs.declared.schedule_turn.ScheduleEnd.{ScheduleEnd}
 use Rattle.c5_workers.specs.declared.schedule_turn.ScheduleEnd.TheVariants as ends
 use Rattle.c5_workers.specs.Scheduling.{first_write_count, IsLastOfEach, LooksUp, indexed_with}
+use Rattle.c5_rows.specs.Sizes.{max_rows}
 
--- the scheduler keeps what is scheduled, as the pass knows, the last number of each row up to there, and the number of rows
+-- the scheduler keeps what is scheduled, as the pass knows, the last number of each row up to
+-- there, and the number of rows
 pub record FitsSchedule (s : Scheduler) (p : Pass) : Type 0 where
   pub role : p.scheduler ≡ true
   pub scheduled : s.scheduled ≡ p.scheduled
   pub last : IsLastOfEach (names p.board) s.last.items p.scheduled
   pub rows : s.rows ≡ first_write_count (names p.board) p.scheduled
-  pub few : s.rows ≤ 65536
+  pub few : s.rows ≤ max_rows
   pub written : p.written ≡ p.scheduled
   pub indexed : p.indexed ≤ p.scheduled
 
 -- it fits each pass of the board with the scheduler role for which nothing is scheduled
 abbrev pub FitsNew : Scheduler → Board → Type 0
-FitsNew s board = (p : Pass) → p.board ≡ board → p.scheduler ≡ true → p.scheduled ≡ 0 → p.written ≡ 0 → p.indexed ≡ 0 → FitsSchedule s p
+FitsNew s board = (p : Pass) → p.board ≡ board → p.scheduler ≡ true → p.scheduled ≡ 0
+    → p.written ≡ 0 → p.indexed ≡ 0 → FitsSchedule s p
 
 -- 65,536 rows are scheduled, and the next write is the first of another one
-pub record IsFull (p : Pass) : Type 0 where
+pub record IsFullOfRows (p : Pass) : Type 0 where
   pub first : IsFirstWrite (names p.board) (p.scheduled + 1)
-  pub full : first_write_count (names p.board) p.scheduled ≡ 65536
+  pub full : first_write_count (names p.board) p.scheduled ≡ max_rows
 
--- w, the next write, is scheduled: after its path was followed, its row is in the index, and its record is stored
+-- w, the next write, is scheduled: after its path was followed, its row is in the index, and its
+-- record is stored
 pub record Schedules (old new : Pass) (w : ℕ) : Type 0 where
   pub next : w ≡ old.scheduled + 1
   pub within : w ≤ write_count old.board
-  pub few : IsFirstWrite (names old.board) w → first_write_count (names old.board) old.scheduled < 65536
+  pub few : IsFirstWrite (names old.board) w
+      → first_write_count (names old.board) old.scheduled < max_rows
   pub found : Pass
   pub looks : LooksUp old found w
-  pub pass : new ≡ record found { indexed = indexed_with (names old.board) w found.indexed; written = w; scheduled = w }
+  pub pass : new
+      ≡ record found {
+        indexed = indexed_with (names old.board) w found.indexed;
+        written = w;
+        scheduled = w;
+      }
 
 abbrev pub TakesTurn : Pass → Pass → ScheduleTurn → Type 0
 TakesTurn old new turns.Done = (old.scheduled ≡ write_count old.board) × (new ≡ old)
-TakesTurn old new turns.Rows = IsFull old × LooksUp old new (old.scheduled + 1)
+TakesTurn old new turns.Rows = IsFullOfRows old × LooksUp old new (old.scheduled + 1)
 TakesTurn old new (turns.Did w) = Schedules old new w
 
 -- each write is scheduled, or as many as there may be
 abbrev pub IsEnd : Pass → ScheduleEnd → Type 0
-IsEnd p ends.Done = (p.scheduled ≡ write_count p.board) × (first_write_count (names p.board) (write_count p.board) ≤ 65536)
-IsEnd p ends.Rows = IsFull p × (65536 < first_write_count (names p.board) (write_count p.board))
+IsEnd p ends.Done = (p.scheduled ≡ write_count p.board)
+    × (first_write_count (names p.board) (write_count p.board) ≤ max_rows)
+IsEnd p ends.Rows = IsFullOfRows p
+    × (max_rows < first_write_count (names p.board) (write_count p.board))
 
 -- only what the scheduler role knows and the looks have changed
 abbrev pub OnlySchedules : Pass → Pass → Type 0
-OnlySchedules old new = new ≡ record old { written = new.written; indexed = new.indexed; scheduled = new.scheduled; looks = new.looks }
+OnlySchedules old new =
+    new ≡ record old {
+      written = new.written;
+      indexed = new.indexed;
+      scheduled = new.scheduled;
+      looks = new.looks;
+    }
 
 pub record SchedulesAll (old new : Pass) (end : ScheduleEnd) : Type 0 where
   pub only : OnlySchedules old new

@@ -1,7 +1,9 @@
 -- When a worker fits a pass, and what its turns come to.
-use Rattle.std.specs.Prelude.{true, false, ◌≡◌, ◌≤◌, ◌<◌, ◌+◌, ◌++◌, ◌⊎◌, ℕ, List, [], ◌∷◌, length, Option, Some, None, vec_capacity}
+use Rattle.std.specs.Prelude.{true, false, ◌≡◌, ◌≤◌, ◌<◌, ◌+◌, ◌++◌, ◌⊎◌, ℕ, List, [], ◌∷◌, length}
+use Rattle.std.specs.Prelude.{Option, Some, None, vec_capacity}
 use Rattle.c5_board.specs.declared.known.Look.TheVariants.{LoadScheduled}
-use Rattle.c5_board.specs.Sets.{has, with_number}
+use Rattle.c5_board.specs.Sets.{with_number}
+use Rattle.c5_rows.specs.Numbers.{is_among}
 use Rattle.c5_board.specs.Passes.{owner_in}
 use Rattle.c5_board.specs.Boards.{Pass, names, write_count, IsWorker}
 use Rattle.c5_chains.specs.declared.install.Install.{Install}
@@ -11,15 +13,16 @@ use Rattle.c5_workers.specs.declared.worker.Worker.{Worker}
 use Rattle.c5_workers.specs.declared.work_turn.WorkTurn.{WorkTurn}
 use Rattle.c5_workers.specs.declared.work_turn.WorkTurn.TheVariants.{Did, NotYet, Done}
 use Rattle.c5_workers.specs.Tries.{FitsList, Retries, least_of, with_next}
+use Rattle.c5_rows.specs.Sizes.{max_workers, max_put_off}
 
 -- the worker is one of the board's, and its numbers and its list are those of the pass
 pub record FitsWorker (w : Worker) (p : Pass) : Type 0 where
   pub workers : w.workers ≡ p.board.workers
   pub worker : IsWorker w.workers w.i
-  pub few_workers : w.workers ≤ 16
+  pub few_workers : w.workers ≤ max_workers
   pub numbers : FitsList w.i w.next w.put_off.items p
-  pub few : length w.put_off.items ≤ 64
-  pub room : 64 ≤ vec_capacity w.put_off
+  pub few : length w.put_off.items ≤ max_put_off
+  pub room : max_put_off ≤ vec_capacity w.put_off
 
 -- nothing was tried, and there is room for 64 numbers
 pub record IsNewWorker (w : Worker) (i workers : ℕ) : Type 0 where
@@ -27,11 +30,12 @@ pub record IsNewWorker (w : Worker) (i workers : ℕ) : Type 0 where
   pub of_workers : w.workers ≡ workers
   pub next : w.next ≡ i
   pub none : w.put_off.items ≡ []
-  pub room : 64 ≤ vec_capacity w.put_off
+  pub room : max_put_off ≤ vec_capacity w.put_off
 
 -- it fits each pass with its role that has installed none of its numbers
 abbrev pub FitsUnworked : Worker → ℕ → ℕ → Type 0
-FitsUnworked w i workers = (p : Pass) → p.board.workers ≡ workers → has i p.roles ≡ true → ((v : ℕ) → owner_in p v ≡ i → has v p.installed ≡ false) → FitsWorker w p
+FitsUnworked w i workers = (p : Pass) → p.board.workers ≡ workers → is_among i p.roles ≡ true
+    → ((v : ℕ) → owner_in p v ≡ i → is_among v p.installed ≡ false) → FitsWorker w p
 
 -- the same worker of the same workers
 pub record IsSameWorker (old new : Worker) : Type 0 where
@@ -41,7 +45,7 @@ pub record IsSameWorker (old new : Worker) : Type 0 where
 -- the next number was tried
 pub record HasTriedNext (old new : Worker) (p q : Pass) (result : Install) : Type 0 where
   pub same : IsSameWorker old new
-  pub room : length old.put_off.items < 64
+  pub room : length old.put_off.items < max_put_off
   pub scheduled : old.next ≤ p.scheduled
   pub cause : IsCaused p old.next result
   pub pass : q ≡ tried p old.next (head_found (names p.board) old.next result)
@@ -50,7 +54,8 @@ pub record HasTriedNext (old new : Worker) (p q : Pass) (result : Install) : Typ
 
 -- the next number was tried if there was room for it and it is scheduled, and only then
 abbrev pub TriesNext : Worker → Worker → Pass → Pass → Option Install → Type 0
-TriesNext old new p q None = ((64 ≤ length old.put_off.items) ⊎ (p.scheduled < old.next)) × (q ≡ p) × (new ≡ old)
+TriesNext old new p q None = ((max_put_off ≤ length old.put_off.items) ⊎ (p.scheduled < old.next))
+    × (q ≡ p) × (new ≡ old)
 TriesNext old new p q (Some result) = HasTriedNext old new p q result
 
 -- how many writes that makes installed, and how many put off
@@ -79,7 +84,8 @@ pub record IsIdle (w : Worker) (most : ℕ) : Type 0 where
   pub none : w.put_off.items ≡ []
   pub above : most < w.next
 
--- the numbers that were put off were tried again, and then maybe the next one; the least that isn't installed is stored as progress
+-- the numbers that were put off were tried again, and then maybe the next one; the least that isn't
+-- installed is stored as progress
 pub record HasWorked (old new : Worker) (p q : Pass) (installed put_off : ℕ) : Type 0 where
   pub scheduled : ℕ
   pub busy : ¬ IsIdle old scheduled
@@ -92,10 +98,12 @@ pub record HasWorked (old new : Worker) (p q : Pass) (installed put_off : ℕ) :
   pub result : Option Install
   pub tries : TriesNext middle new retried tried_so result
   pub pass : q ≡ with_progress tried_so new.i (least_of new.put_off.items new.next)
-  pub count : installed + length middle.put_off.items ≡ length old.put_off.items + installed_by result
+  pub count : installed + length middle.put_off.items
+      ≡ length old.put_off.items + installed_by result
   pub new_one : put_off ≡ put_off_by result
 
 abbrev pub WorksTurn : Worker → Worker → Pass → Pass → WorkTurn → Type 0
 WorksTurn old new p q Done = IsIdle old (write_count p.board) × (q ≡ p) × (new ≡ old)
-WorksTurn old new p q (NotYet scheduled) = IsIdle old scheduled × (old.next ≤ write_count p.board) × (q ≡ with_progress (with_scheduled p scheduled) old.i old.next) × (new ≡ old)
+WorksTurn old new p q (NotYet scheduled) = IsIdle old scheduled × (old.next ≤ write_count p.board)
+    × (q ≡ with_progress (with_scheduled p scheduled) old.i old.next) × (new ≡ old)
 WorksTurn old new p q (Did installed put_off) = HasWorked old new p q installed put_off

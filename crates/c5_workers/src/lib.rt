@@ -1,4 +1,5 @@
-//! The scheduler numbers the rows of a log and records each write's predecessor; workers install the writes.
+//! The scheduler numbers the rows of a log and records each write's predecessor; workers install
+//! the writes.
 #![tactic(auto)]
 
 mod retrying;
@@ -9,7 +10,7 @@ mod work_turn;
 mod worker;
 
 pub use schedule_turn::{ScheduleEnd, ScheduleTurn};
-pub use scheduler::{MAX_ROWS, Scheduler};
+pub use scheduler::Scheduler;
 pub use scheduling::schedule_all;
 pub use work_turn::WorkTurn;
-pub use worker::{MAX_PUT_OFF, Worker};
+pub use worker::Worker;

@@ -6,8 +6,8 @@ ghost use Rattle.c5_workers.specs.Tries.{FitsList, Retries};
 use c5_board::{Board, BoardPass};
 use c5_chains::{Install, try_install};
 
-/// Tries each number of the list once, in order. Those that are put off again are moved to its beginning, and how
-/// many there are is returned.
+/// Tries each number of the list once, in order. Those that are put off again are moved to its
+/// beginning, and how many there are is returned.
 pub fn retry(board: &Board<'_>, pass: &mut BoardPass, list: &mut [u32], i: u32, next: u32) -> usize
     requires pass { pass.old.board ≡ board.now }
     requires fits { FitsList i next list.old pass.old }

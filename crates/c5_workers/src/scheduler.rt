@@ -3,17 +3,15 @@
 ghost use Rattle.std.specs.Prelude.{◌≡◌, ◌<◌, IfOk};
 ghost use Rattle.c5_board.specs.Boards.{names};
 ghost use Rattle.c5_workers.specs.Schedules.{FitsSchedule, FitsNew, TakesTurn};
-ghost use Rattle.c5_workers.specs.Scheduling.{IsLastOfEach, IsReady, IsNext, PlacesNext, rows_with};
+ghost use Rattle.c5_workers.specs.Scheduling.{IsLastOfEach, IsReadyToRecord, IsNext, PlacesNext};
+ghost use Rattle.c5_workers.specs.Scheduling.{rows_with};
 
 use crate::schedule_turn::ScheduleTurn;
 use c5_board::{Board, BoardPass, Record};
 use c5_chains::{PathEnd, follow_path};
 use c5_definitions::number_law;
-use c5_rows::NoMemory;
+use c5_rows::{MAX_ROWS, NoMemory};
 use std::alloc::Global;
-
-/// The greatest number of rows that a log may write.
-pub const MAX_ROWS: u32 = 65_536;
 
 /// Schedules the writes of a log, one after the other.
 #[derive(Debug, Drop)]
@@ -27,7 +25,7 @@ pub struct Scheduler {
 // Records the next write, which is of this row, and schedules it.
 fn record_next(board: &Board<'_>, pass: &mut BoardPass, last: &mut [u32], w: u32, row: u32)
     requires pass { pass.old.board ≡ board.now }
-    requires ready { IsReady pass.old last.old w row }
+    requires ready { IsReadyToRecord pass.old last.old w row }
     ensures pass { pass.new ≡ record pass.old { written = w; scheduled = w } }
     ensures last { IsLastOfEach (names board.now) last.new w }
 {
@@ -43,7 +41,8 @@ fn record_next(board: &Board<'_>, pass: &mut BoardPass, last: &mut [u32], w: u32
     last[place] = w;
 }
 
-// The number of the row of the next write, after the row was stored in the index if that is its first write;
+// The number of the row of the next write, after the row was stored in the index if that is its
+// first write;
 // `None` if it is the first of one row too many.
 fn place_next(board: &Board<'_>, pass: &mut BoardPass, w: u32, rows: u32) -> Option<u32>
     requires pass { pass.old.board ≡ board.now }
@@ -55,7 +54,7 @@ fn place_next(board: &Board<'_>, pass: &mut BoardPass, w: u32, rows: u32) -> Opt
     let name = board.plan().log().write(w).name();
     match follow_path(board, pass, &name) {
         PathEnd::Row(row) => Some(row),
-        PathEnd::Free(_) if rows == MAX_ROWS => None,
+        PathEnd::Free(_) if rows as usize == MAX_ROWS => None,
         PathEnd::Free(bucket) => {
             board.store_bucket(pass, bucket, w);
             Some(w)
@@ -72,7 +71,8 @@ fn rows_with(rows: u32, w: u32, row: u32) -> u32
 }
 
 impl Scheduler {
-    /// A scheduler of the board's log, of which nothing is scheduled. It has room for one number per write.
+    /// A scheduler of the board's log, of which nothing is scheduled. It has room for one number
+    /// per write.
     pub fn new(alloc: Global, board: &Board<'_>) -> Result<Scheduler, NoMemory>
         ensures { IfOk result (λ scheduler. FitsNew scheduler board.now) }
     {
@@ -85,9 +85,9 @@ impl Scheduler {
         })
     }
 
-    /// Schedules the next write: stores its row in the index if it is the row's first write, then its record, and
-    /// then the scheduled word. `Done` if and only if each write is scheduled; else `Rows` if and only if the
-    /// next write is the first of one row too many.
+    /// Schedules the next write: stores its row in the index if it is the row's first write, then
+    /// its record, and then the scheduled word. `Done` if and only if each write is scheduled; else
+    /// `Rows` if and only if the next write is the first of one row too many.
     pub fn turn(&mut self, board: &Board<'_>, pass: &mut BoardPass) -> ScheduleTurn
         requires pass { pass.old.board ≡ board.now }
         requires fits { FitsSchedule self.old pass.old }

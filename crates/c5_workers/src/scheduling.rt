@@ -7,8 +7,8 @@ use crate::schedule_turn::{ScheduleEnd, ScheduleTurn};
 use crate::scheduler::Scheduler;
 use c5_board::{Board, BoardPass};
 
-/// Schedules the writes that are left. `Rows` if and only if the log writes more than 65,536 rows: then the
-/// writes before the first one of one row too many are scheduled.
+/// Schedules the writes that are left. `Rows` if and only if the log writes more than 65,536 rows:
+/// then the writes before the first one of one row too many are scheduled.
 pub fn schedule_all(
     board: &Board<'_>,
     pass: &mut BoardPass,

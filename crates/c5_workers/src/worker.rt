@@ -3,18 +3,18 @@
 ghost use Rattle.std.specs.Prelude.{◌≡◌, ◌≤◌, ◌<◌, ◌↔◌, IsTrue, length, vec_capacity, IfOk};
 ghost use Rattle.c5_board.specs.Boards.{IsWorker};
 ghost use Rattle.c5_workers.specs.Tries.{Retries, least_of, with_next};
-ghost use Rattle.c5_workers.specs.Work.{IsNewWorker, FitsUnworked, IsSameWorker, FitsWorker, IsIdle, TriesNext, with_progress, WorksTurn, installed_by, put_off_by};
+ghost use Rattle.c5_workers.specs.Work.{IsNewWorker, FitsUnworked, IsSameWorker, FitsWorker};
+ghost use Rattle.c5_workers.specs.Work.{IsIdle, TriesNext, with_progress, WorksTurn, installed_by};
+ghost use Rattle.c5_workers.specs.Work.{put_off_by};
+ghost use Rattle.c5_rows.specs.Sizes.{max_put_off, max_workers};
 
 use crate::retrying::retry;
 use crate::work_turn::WorkTurn;
 use c5_board::{Board, BoardPass};
 use c5_chains::{Install, try_install};
 use c5_definitions::number_law;
-use c5_rows::NoMemory;
+use c5_rows::{MAX_PUT_OFF, NoMemory};
 use std::alloc::Global;
-
-/// The greatest number of writes that a worker puts off.
-pub const MAX_PUT_OFF: usize = 64;
 
 /// Installs the writes that one worker owns.
 #[derive(Debug, Drop)]
@@ -29,11 +29,11 @@ pub struct Worker {
 
 // Adds a number that was put off. There is room for it.
 fn keep(put_off: &mut Vec<u32>, w: u32, install: Install)
-    requires few { length put_off.old.items < 64 }
-    requires room { 64 ≤ vec_capacity put_off.old }
+    requires few { length put_off.old.items < max_put_off }
+    requires room { max_put_off ≤ vec_capacity put_off.old }
     ensures list { put_off.new.items ≡ with_next put_off.old.items w install }
-    ensures few { length put_off.new.items ≤ 64 }
-    ensures room { 64 ≤ vec_capacity put_off.new }
+    ensures few { length put_off.new.items ≤ max_put_off }
+    ensures room { max_put_off ≤ vec_capacity put_off.new }
 {
     if let Install::PutOff { .. } = install {
         match put_off.push(w) {
@@ -47,7 +47,7 @@ impl Worker {
     /// Worker i of so many, which has tried nothing. It has room for the numbers that it puts off.
     pub fn new(alloc: Global, i: u32, workers: u32) -> Result<Worker, NoMemory>
         requires worker { IsWorker workers i }
-        requires few { workers ≤ 16 }
+        requires few { workers ≤ max_workers }
         ensures new { IfOk result (λ worker. IsNewWorker worker i workers) }
         ensures fits { IfOk result (λ worker. FitsUnworked worker i workers) }
     {
@@ -83,14 +83,16 @@ impl Worker {
         requires pass { pass.old.board ≡ board.now }
         requires fits { FitsWorker self.now pass.old }
         ensures fits { FitsWorker self.now pass.new }
-        ensures pass { pass.new ≡ with_progress pass.old self.now.i (least_of self.now.put_off.items self.now.next) }
+        ensures pass { pass.new
+            ≡ with_progress pass.old self.now.i (least_of self.now.put_off.items self.now.next) }
     {
         number_law();
         let _place = pass.place();
         board.store_progress(pass, self.i, self.least());
     }
 
-    // Tries the next number if fewer than 64 are put off and it is scheduled. It is put off if it isn't installed.
+    // Tries the next number if fewer than 64 are put off and it is scheduled. It is put off if it
+    // isn't installed.
     fn try_next(
         &mut self,
         board: &Board<'_>,
@@ -133,8 +135,9 @@ impl Worker {
         self.put_off.truncate(kept);
     }
 
-    /// Tries each number that is put off, ascending, and then the next one, if fewer than 64 are put off and it
-    /// is scheduled. Then the least number that isn't installed is stored as the worker's progress.
+    /// Tries each number that is put off, ascending, and then the next one, if fewer than 64 are
+    /// put off and it is scheduled. Then the least number that isn't installed is stored as the
+    /// worker's progress.
     pub fn turn(&mut self, board: &Board<'_>, pass: &mut BoardPass) -> WorkTurn
         requires pass { pass.old.board ≡ board.now }
         requires fits { FitsWorker self.old pass.old }

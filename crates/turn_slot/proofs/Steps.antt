@@ -15,8 +15,9 @@ use Rattle.turn_slot.specs.declared.known.Known.{Known}
 use Rattle.turn_slot.specs.declared.known.Origin.{Origin}
 use Rattle.turn_slot.specs.declared.known.Stage.{Stage}
 use Rattle.turn_slot.specs.declared.known.Stage.TheVariants.{Without, Won, Out, Back}
-use Rattle.turn_slot.specs.Entries.{count_of, has, numbers_from, IsNumber, entries_of, AreOf, AreOthers, IsSeenOf}
-use Rattle.turn_slot.specs.Views.{has_turn, pass_number, new_view, first_view, spent_view, others_view, single_view, joined_view, looked_view, saw_view, Fits, IsPlaced, IsKept, tried, took, gave, ended}
+use Rattle.turn_slot.specs.Entries.{count_of, IsPassNumber, entries_of, AreOf, AreOthers, IsSeenOf}
+use Rattle.c5_rows.specs.Numbers.{is_among, numbers_from}
+use Rattle.turn_slot.specs.Views.{has_turn, pass_number, new_view, first_view, spent_view, others_view, single_view, joined_view, looked_view, saw_view, Fits, IsPlaced, IsSlotKept, tried, took, gave, ended}
 use Rattle.turn_slot.proofs.Histories.{not_both, not_true, either_bool, one_number, has_front, has_back, has_part, has_range, range_has, seen_fewer, seen_whole, seen_more, seen_longer, seen_begins, seen_own, seen_all_own}
 
 -- ---- views in a list
@@ -42,11 +43,11 @@ one_view : {A : Type 0} (l : List A) (j : ℕ) (v w : A) → get_elem? l j ≡ s
 one_view l j v w e f = some-injective v w (sym e ∙ f)
 
 -- a number that isn't 0 and comes first is among the numbers
-first_has : (numbers : List ℕ) → pass_number numbers ≢ 0 → has (pass_number numbers) numbers ≡ true
+first_has : (numbers : List ℕ) → pass_number numbers ≢ 0 → is_among (pass_number numbers) numbers ≡ true
 first_has [] some_number = absurd (some_number refl)
 first_has (n ∷ ns) some_number = rw (eq-eqb n n refl)
 
-pub has_first : (n : ℕ) (numbers : List ℕ) → numbers ≡ n ∷ drop 1 numbers → has n numbers ≡ true
+pub has_first : (n : ℕ) (numbers : List ℕ) → numbers ≡ n ∷ drop 1 numbers → is_among n numbers ≡ true
 has_first n [] is = absurd (cc)
 has_first n (m ∷ ns) is = let e : n ≡ m = cc in rw (eq-eqb n m e)
 
@@ -61,13 +62,13 @@ module _ {V B E : Type 0} (base : V → B) (history : V → List E) (caller : E 
   M = Me (Option V) K
 
   abbrev Rule : St → Type 0
-  Rule = IsKept base history caller origin
+  Rule = IsSlotKept base history caller origin
 
   abbrev AllNumbers : List E → Type 0
-  AllNumbers log = All (λ e. IsNumber origin.passes (caller e)) log
+  AllNumbers log = All (λ e. IsPassNumber origin.passes (caller e)) log
 
   abbrev has_in : K → ℕ → Bool
-  has_in v n = has n v.numbers
+  has_in v n = is_among n v.numbers
 
   abbrev has_number : K → ℕ → Type 0
   has_number v n = has_in v n ≡ true
@@ -81,7 +82,7 @@ module _ {V B E : Type 0} (base : V → B) (history : V → List E) (caller : E 
       → get_elem? s.views id ≡ some v → w.numbers ≡ v.numbers → words ≡ holder ∷ count_of (length log) ∷ [] → IsPlaced base history stage homes origin.base log
       → (holder ≡ 0 → stage ≡ Without)
       → (holder ≢ 0 → ((who ≡ id) × (has_turn w.stage ≡ true)) ⊎ ((r.holder ≢ 0) × (who ≡ r.who) × (has_turn v.stage ≡ false)))
-      → All (λ e. IsNumber origin.passes (caller e)) log
+      → All (λ e. IsPassNumber origin.passes (caller e)) log
       → Fits caller origin log holder stage who r.owner id w
       → ((k : ℕ) (u : K) → k ≢ id → get_elem? s.views k ≡ some u → Fits caller origin log holder stage who r.owner k u)
       → Rule (record { words = words; homes = homes; views = set s.views id w })
@@ -108,7 +109,7 @@ module _ {V B E : Type 0} (base : V → B) (history : V → List E) (caller : E 
         (λ e. (
           w,
           subst (λ (k : ℕ). get_elem? (set s.views id w) k ≡ some w) (sym e) (there s.views id v w at),
-          subst (λ (l : List ℕ). has n l ≡ true) (ap (λ (z : K). z.numbers) (one_view s.views id h.0 v (subst (λ (k : ℕ). get_elem? s.views k ≡ some h.0) e h.1) at) ∙ sym same_numbers) h.2,
+          subst (λ (l : List ℕ). is_among n l ≡ true) (ap (λ (z : K). z.numbers) (one_view s.views id h.0 v (subst (λ (k : ℕ). get_elem? s.views k ≡ some h.0) e h.1) at) ∙ sym same_numbers) h.2,
         ))
         (λ apart. (h.0, set_else s.views id (r.owner n) w apart ∙ h.1, h.2));
     callers = callers;
@@ -124,7 +125,7 @@ module _ {V B E : Type 0} (base : V → B) (history : V → List E) (caller : E 
     numbers = f.numbers;
     seen = f.seen;
     looks = f.looks;
-    turn = λ has. absurd (not_both (has_turn u.stage) has idle);
+    turn = λ is_among. absurd (not_both (has_turn u.stage) is_among idle);
     seen_all = λ out. absurd (not_both (has_turn u.stage) (ap has_turn out) idle);
   }
 
@@ -136,30 +137,30 @@ module _ {V B E : Type 0} (base : V → B) (history : V → List E) (caller : E 
     numbers = f.numbers;
     seen = seen_more caller log more u.numbers u.seen foreign f.seen;
     looks = f.looks;
-    turn = λ has. absurd (not_both (has_turn u.stage) has idle);
+    turn = λ is_among. absurd (not_both (has_turn u.stage) is_among idle);
     seen_all = λ out. absurd (not_both (has_turn u.stage) (ap has_turn out) idle);
   }
 
   -- where the holder word is 0, no seat has the turn
   idle_free : (s : St) (r : Rule s) (k : ℕ) (u : K) → r.holder ≡ 0 → get_elem? s.views k ≡ some u → has_turn u.stage ≡ false
-  idle_free s r k u zero_word at = not_true (has_turn u.stage) (λ has. not_both (has_turn u.stage) has (ap has_turn (sym ((r.each k u at).turn has).1 ∙ r.free zero_word)))
+  idle_free s r k u zero_word at = not_true (has_turn u.stage) (λ is_among. not_both (has_turn u.stage) is_among (ap has_turn (sym ((r.each k u at).turn is_among).1 ∙ r.free zero_word)))
 
   -- where a seat has the turn, no other has it
   idle_other : (s : St) (r : Rule s) (id : ℕ) (v : K) (k : ℕ) (u : K) → get_elem? s.views id ≡ some v → has_turn v.stage ≡ true → k ≢ id → get_elem? s.views k ≡ some u → has_turn u.stage ≡ false
-  idle_other s r id v k u at turn apart there = not_true (has_turn u.stage) (λ has. apart (((r.each k u there).turn has).0 ∙ sym ((r.each id v at).turn turn).0))
+  idle_other s r id v k u at turn apart there = not_true (has_turn u.stage) (λ is_among. apart (((r.each k u there).turn is_among).0 ∙ sym ((r.each id v at).turn turn).0))
 
   -- ---- the exchange of the holder word
 
   -- the number in the holder word is that of another seat
-  held_by_other : (s : St) (r : Rule s) (id : ℕ) (v : K) → get_elem? s.views id ≡ some v → has_turn v.stage ≡ false → r.holder ≢ 0 → IsNumber origin.passes r.holder × (has r.holder v.numbers ≡ false)
+  held_by_other : (s : St) (r : Rule s) (id : ℕ) (v : K) → get_elem? s.views id ≡ some v → has_turn v.stage ≡ false → r.holder ≢ 0 → IsPassNumber origin.passes r.holder × (is_among r.holder v.numbers ≡ false)
   held_by_other s r id v at idle busy =
       let h = r.held busy in
       let f = r.each r.who h.0 h.1 in
       let t = f.turn h.2 in
-      let among : has r.holder h.0.numbers ≡ true = subst (λ (n : ℕ). has n h.0.numbers ≡ true) t.2 (first_has h.0.numbers (λ e. busy (sym t.2 ∙ e))) in
+      let among : is_among r.holder h.0.numbers ≡ true = subst (λ (n : ℕ). is_among n h.0.numbers ≡ true) t.2 (first_has h.0.numbers (λ e. busy (sym t.2 ∙ e))) in
       let known = f.numbers r.holder among in (
         known.0,
-        not_true (has r.holder v.numbers)
+        not_true (is_among r.holder v.numbers)
             (λ is. let same : r.who ≡ id = sym known.1 ∙ ((r.each id v at).numbers r.holder is).1 in
             not_both (has_turn v.stage) (subst (λ (z : K). has_turn z.stage ≡ true) (one_view s.views id h.0 v (subst (λ (k : ℕ). get_elem? s.views k ≡ some h.0) same h.1) at) h.2) idle),
       )
@@ -194,7 +195,7 @@ module _ {V B E : Type 0} (base : V → B) (history : V → List E) (caller : E 
         ((λ _. refl), λ miss. absurd (miss hit)),
       ))
       (λ miss. let w : K = looked_view v n Without in let busy : r.holder ≢ 0 = λ e. miss (n_is ∙ e) in let other = held_by_other s r id v at idle' busy in
-      let number_n : IsNumber origin.passes n = subst (IsNumber origin.passes) (sym n_is) other.0 in (
+      let number_n : IsPassNumber origin.passes n = subst (IsPassNumber origin.passes) (sym n_is) other.0 in (
         w,
         keeps,
         tt,
@@ -214,8 +215,8 @@ module _ {V B E : Type 0} (base : V → B) (history : V → List E) (caller : E 
           (λ hit. absurd (miss hit)),
           (λ _. (
             refl,
-            subst (λ (k : ℕ). has k v.numbers ≡ false) (sym n_is) other.1,
-            (λ o is. subst (λ (z : Origin B). IsNumber z.passes n) (sym (f.same_origin o is)) number_n),
+            subst (λ (k : ℕ). is_among k v.numbers ≡ false) (sym n_is) other.1,
+            (λ o is. subst (λ (z : Origin B). IsPassNumber z.passes n) (sym (f.same_origin o is)) number_n),
           )),
         ),
       ))
@@ -226,8 +227,8 @@ module _ {V B E : Type 0} (base : V → B) (history : V → List E) (caller : E 
   takes_slot slots id me won s r _ at _ =
       let v : K = me.0 in
       let f = r.each id v at in
-      let has : has_turn v.stage ≡ true = ap has_turn won in
-      let t = f.turn has in
+      let is_among : has_turn v.stage ≡ true = ap has_turn won in
+      let t = f.turn is_among in
       let l = subst (λ (st : Stage). IsPlaced base history st s.homes origin.base r.log) (t.1 ∙ won) r.place in
       let x : V = l.0 in
       let w : K = saw_view v (history x) Out in (
@@ -245,7 +246,7 @@ module _ {V B E : Type 0} (base : V → B) (history : V → List E) (caller : E 
               turn = λ _. (t.0, refl, t.2);
               seen_all = λ _. l.3;
             })
-            (λ k u apart there. still r.log r.holder r.holder r.stage Out r.who r.who r.owner k u (idle_other s r id v k u at has apart there) (r.each k u there)),
+            (λ k u apart there. still r.log r.holder r.holder r.stage Out r.who r.who r.owner k u (idle_other s r id v k u at is_among apart there) (r.each k u there)),
         (
           x,
           refl,
@@ -263,15 +264,15 @@ module _ {V B E : Type 0} (base : V → B) (history : V → List E) (caller : E 
   gives_slot slots id me x n out carried same_base grown n_is s r _ at _ =
       let v : K = me.0 in
       let f = r.each id v at in
-      let has : has_turn v.stage ≡ true = ap has_turn out in
-      let t = f.turn has in
+      let is_among : has_turn v.stage ≡ true = ap has_turn out in
+      let t = f.turn is_among in
       let more : List E = grown.0 in
       let is : r.log ++ more ≡ history x = ap (λ (l : List E). l ++ more) (sym (f.seen_all out)) ∙ sym grown.1 in
       let hole = subst (λ (st : Stage). IsPlaced base history st s.homes origin.base r.log) (t.1 ∙ out) r.place in
       let lies : homes_after s.homes me.1 gives ≡ some (Some x) ∷ [] = ap (λ (c : List (ℕ × Option V)). homes_after s.homes c gives) carried ∙ ap (λ (hs : List (maybe.Option (Option V))). set hs 0 (some (Some x))) hole in
       let w : K = saw_view v (history x) Back in
-      let known : AllNumbers (history x) = subst AllNumbers is (All-append (λ e. IsNumber origin.passes (caller e)) r.log more r.callers
-      (All-weaker (λ e. has_number v (caller e)) (λ e. IsNumber origin.passes (caller e)) (λ e here. (f.numbers (caller e) here).0) more grown.2)) in (
+      let known : AllNumbers (history x) = subst AllNumbers is (All-append (λ e. IsPassNumber origin.passes (caller e)) r.log more r.callers
+      (All-weaker (λ e. has_number v (caller e)) (λ e. IsPassNumber origin.passes (caller e)) (λ e here. (f.numbers (caller e) here).0) more grown.2)) in (
         w,
         gives,
         tt,
@@ -286,7 +287,7 @@ module _ {V B E : Type 0} (base : V → B) (history : V → List E) (caller : E 
               turn = λ _. (t.0, refl, t.2);
               seen_all = λ _. refl;
             })
-            (λ k u apart there. let idle = idle_other s r id v k u at has apart there in let g = r.each k u there in
+            (λ k u apart there. let idle = idle_other s r id v k u at is_among apart there in let g = r.each k u there in
             let foreign : AreOthers caller u.numbers more = All-weaker (λ e. has_number v (caller e)) (λ e. not_number u (caller e))
             (λ e here. not_true (has_in u (caller e)) (λ theirs. apart (sym (g.numbers (caller e) theirs).1 ∙ (f.numbers (caller e) here).1))) more grown.2 in
             subst (λ (l : List E). Fits caller origin l r.holder Back r.who r.owner k u) is
@@ -301,8 +302,8 @@ module _ {V B E : Type 0} (base : V → B) (history : V → List E) (caller : E 
   ends_turn slots id me back s r _ at _ =
       let v : K = me.0 in
       let f = r.each id v at in
-      let has : has_turn v.stage ≡ true = ap has_turn back in
-      let t = f.turn has in
+      let is_among : has_turn v.stage ≡ true = ap has_turn back in
+      let t = f.turn is_among in
       let w : K = saw_view v v.seen Without in (
         w,
         keeps,
@@ -318,7 +319,7 @@ module _ {V B E : Type 0} (base : V → B) (history : V → List E) (caller : E 
               turn = λ e. absurd (true≢false (sym e));
               seen_all = λ e. absurd (cc);
             })
-            (λ k u apart there. still r.log r.holder 0 r.stage Without r.who r.who r.owner k u (idle_other s r id v k u at has apart there) (r.each k u there)),
+            (λ k u apart there. still r.log r.holder 0 r.stage Without r.who r.who r.owner k u (idle_other s r id v k u at is_among apart there) (r.each k u there)),
         refl,
       )
 
@@ -337,7 +338,7 @@ module _ {V B E : Type 0} (base : V → B) (history : V → List E) (caller : E 
     held = λ busy. absurd (busy refl);
     each = at_start;
     owned = λ n is. (first_view origin, refl, range_has n 1 origin.passes is.0 (let h = is.1 in omega arith));
-    callers = All-nil (λ e. IsNumber origin.passes (caller e));
+    callers = All-nil (λ e. IsPassNumber origin.passes (caller e));
   }
     where
       first_fits : Fits caller origin [] 0 Without 0 (λ _. 0) 0 (first_view origin)
@@ -359,16 +360,16 @@ module _ {V B E : Type 0} (base : V → B) (history : V → List E) (caller : E 
 
   -- the owner of each number where those of one seat go to another
   abbrev passed_on : List ℕ → ℕ → (ℕ → ℕ) → ℕ → ℕ
-  passed_on numbers seat owner n = cond (has n numbers) seat (owner n)
+  passed_on numbers seat owner n = cond (is_among n numbers) seat (owner n)
 
-  passed : (numbers : List ℕ) (seat : ℕ) (owner : ℕ → ℕ) (n : ℕ) → has n numbers ≡ true → passed_on numbers seat owner n ≡ seat
+  passed : (numbers : List ℕ) (seat : ℕ) (owner : ℕ → ℕ) (n : ℕ) → is_among n numbers ≡ true → passed_on numbers seat owner n ≡ seat
   passed numbers seat owner n is = rw is
 
-  not_passed : (numbers : List ℕ) (seat : ℕ) (owner : ℕ → ℕ) (n : ℕ) → has n numbers ≡ false → passed_on numbers seat owner n ≡ owner n
+  not_passed : (numbers : List ℕ) (seat : ℕ) (owner : ℕ → ℕ) (n : ℕ) → is_among n numbers ≡ false → passed_on numbers seat owner n ≡ owner n
   not_passed numbers seat owner n isnt = rw isnt
 
   -- a seat fits under another owner of each number, where its own numbers stay with it
-  reowned : (log : List E) (holder : ℕ) (stage : Stage) (who : ℕ) (owner owner' : ℕ → ℕ) (k : ℕ) (u : K) → ((n : ℕ) → has n u.numbers ≡ true → owner n ≡ k → owner' n ≡ k)
+  reowned : (log : List E) (holder : ℕ) (stage : Stage) (who : ℕ) (owner owner' : ℕ → ℕ) (k : ℕ) (u : K) → ((n : ℕ) → is_among n u.numbers ≡ true → owner n ≡ k → owner' n ≡ k)
       → Fits caller origin log holder stage who owner k u → Fits caller origin log holder stage who owner' k u
   reowned log holder stage who owner owner' k u stay f = record {
     same_origin = f.same_origin;
@@ -379,7 +380,7 @@ module _ {V B E : Type 0} (base : V → B) (history : V → List E) (caller : E 
     seen_all = f.seen_all;
   }
 
-  pub splits : (id : ℕ) (v : K) (n : ℕ) → v.stage ≡ Without → v.numbers ≡ n ∷ drop 1 v.numbers → has n (drop 1 v.numbers) ≡ false → Splits Rule id v (others_view v) (single_view v)
+  pub splits : (id : ℕ) (v : K) (n : ℕ) → v.stage ≡ Without → v.numbers ≡ n ∷ drop 1 v.numbers → is_among n (drop 1 v.numbers) ≡ false → Splits Rule id v (others_view v) (single_view v)
   splits id v n idle mine once s r at =
       let f = r.each id v at in
       let idle' : has_turn v.stage ≡ false = ap has_turn idle in
@@ -388,16 +389,16 @@ module _ {V B E : Type 0} (base : V → B) (history : V → List E) (caller : E 
       let new : ℕ = length (set s.views id left) in
       let one : take 1 v.numbers ≡ n ∷ [] = ap (take 1) mine in
       let owner' : ℕ → ℕ = passed_on (take 1 v.numbers) new r.owner in
-      let sub_one : (m : ℕ) → has m (take 1 v.numbers) ≡ true → has m v.numbers ≡ true = λ m is. subst (λ (l : List ℕ). has m l ≡ true) (take-append-drop 1 v.numbers) (has_front m (take 1 v.numbers) (drop 1 v.numbers) is) in
-      let sub_rest : (m : ℕ) → has m (drop 1 v.numbers) ≡ true → has m v.numbers ≡ true = λ m is. subst (λ (l : List ℕ). has m l ≡ true) (take-append-drop 1 v.numbers) (has_back m (take 1 v.numbers) (drop 1 v.numbers) is) in
-      let is_n : (m : ℕ) → has m (take 1 v.numbers) ≡ true → m ≡ n = λ m is. one_number m n (subst (λ (l : List ℕ). has m l ≡ true) one is) in
-      let apart_rest : (m : ℕ) → has m (drop 1 v.numbers) ≡ true → has m (take 1 v.numbers) ≡ false = λ m is. not_true (has m (take 1 v.numbers)) (λ h. not_both (has n (drop 1 v.numbers)) (subst (λ (k : ℕ). has k (drop 1 v.numbers) ≡ true) (is_n m h) is) once) in
+      let sub_one : (m : ℕ) → is_among m (take 1 v.numbers) ≡ true → is_among m v.numbers ≡ true = λ m is. subst (λ (l : List ℕ). is_among m l ≡ true) (take-append-drop 1 v.numbers) (has_front m (take 1 v.numbers) (drop 1 v.numbers) is) in
+      let sub_rest : (m : ℕ) → is_among m (drop 1 v.numbers) ≡ true → is_among m v.numbers ≡ true = λ m is. subst (λ (l : List ℕ). is_among m l ≡ true) (take-append-drop 1 v.numbers) (has_back m (take 1 v.numbers) (drop 1 v.numbers) is) in
+      let is_n : (m : ℕ) → is_among m (take 1 v.numbers) ≡ true → m ≡ n = λ m is. one_number m n (subst (λ (l : List ℕ). is_among m l ≡ true) one is) in
+      let apart_rest : (m : ℕ) → is_among m (drop 1 v.numbers) ≡ true → is_among m (take 1 v.numbers) ≡ false = λ m is. not_true (is_among m (take 1 v.numbers)) (λ h. not_both (is_among n (drop 1 v.numbers)) (subst (λ (k : ℕ). is_among k (drop 1 v.numbers) ≡ true) (is_n m h) is) once) in
       let left_fits : Fits caller origin r.log r.holder r.stage r.who owner' id left = record {
         same_origin = f.same_origin;
         numbers = λ m is. let g = f.numbers m (sub_rest m is) in (g.0, not_passed (take 1 v.numbers) new r.owner m (apart_rest m is) ∙ g.1);
         seen = seen_fewer caller r.log v.numbers (drop 1 v.numbers) v.seen sub_rest f.seen;
         looks = f.looks;
-        turn = λ has. absurd (not_both (has_turn v.stage) has idle');
+        turn = λ is_among. absurd (not_both (has_turn v.stage) is_among idle');
         seen_all = λ out. absurd (not_both (has_turn v.stage) (ap has_turn out) idle');
       } in
       let right_fits : Fits caller origin r.log r.holder r.stage r.who owner' new right = record {
@@ -412,7 +413,7 @@ module _ {V B E : Type 0} (base : V → B) (history : V → List E) (caller : E 
       let old : (k : ℕ) (u : K) → get_elem? vs k ≡ some u → Fits caller origin r.log r.holder r.stage r.who owner' k u = λ k u e. ⊎_elim
       (λ (t : (k ≡ id) × (left ≡ u)). subst (λ (z : ℕ × K). Fits caller origin r.log r.holder r.stage r.who owner' z.0 z.1) (λ i. (sym t.0 i, t.1 i)) left_fits)
       (λ (t : (k ≢ id) × (get_elem? s.views k ≡ some u)). reowned r.log r.holder r.stage r.who r.owner owner' k u
-      (λ m is own. not_passed (take 1 v.numbers) new r.owner m (not_true (has m (take 1 v.numbers)) (λ h. t.0 (sym own ∙ (f.numbers m (sub_one m h)).1))) ∙ own)
+      (λ m is own. not_passed (take 1 v.numbers) new r.owner m (not_true (is_among m (take 1 v.numbers)) (λ h. t.0 (sym own ∙ (f.numbers m (sub_one m h)).1))) ∙ own)
       (r.each k u t.1))
       (at_set s.views id k left u e) in
       record {
@@ -431,25 +432,25 @@ module _ {V B E : Type 0} (base : V → B) (history : V → List E) (caller : E 
             (λ (t : (k ≡ new) × (right ≡ u)). subst (λ (z : ℕ × K). Fits caller origin r.log r.holder r.stage r.who owner' z.0 z.1) (λ i. (sym t.0 i, t.1 i)) right_fits)
             (snoc vs right u k e);
         owned = λ m is. let h = r.owned m is in ⊎_elim
-            (λ (own : has m (take 1 v.numbers) ≡ true). (
+            (λ (own : is_among m (take 1 v.numbers) ≡ true). (
               right,
               subst (λ (k : ℕ). get_elem? (vs ++ right ∷ []) k ≡ some right) (sym (passed (take 1 v.numbers) new r.owner m own)) (at_last vs right new refl),
               own,
             ))
-            (λ (other : has m (take 1 v.numbers) ≡ false). let same : owner' m ≡ r.owner m = not_passed (take 1 v.numbers) new r.owner m other in
+            (λ (other : is_among m (take 1 v.numbers) ≡ false). let same : owner' m ≡ r.owner m = not_passed (take 1 v.numbers) new r.owner m other in
             dite (ℕ_discrete (r.owner m) id)
             (λ e. let v_is : h.0 ≡ v = one_view s.views id h.0 v (subst (λ (k : ℕ). get_elem? s.views k ≡ some h.0) e h.1) at in
-            let of_v : has m (take 1 v.numbers ++ drop 1 v.numbers) ≡ true = subst (λ (l : List ℕ). has m l ≡ true) (ap (λ (z : K). z.numbers) v_is ∙ sym (take-append-drop 1 v.numbers)) h.2 in (
+            let of_v : is_among m (take 1 v.numbers ++ drop 1 v.numbers) ≡ true = subst (λ (l : List ℕ). is_among m l ≡ true) (ap (λ (z : K). z.numbers) v_is ∙ sym (take-append-drop 1 v.numbers)) h.2 in (
               left,
               subst (λ (k : ℕ). get_elem? (vs ++ right ∷ []) k ≡ some left) (sym (same ∙ e)) (at_longer vs (right ∷ []) id left (there s.views id v left at)),
-              ⊎_elim (λ (h : has m (take 1 v.numbers) ≡ true). absurd (not_both (has m (take 1 v.numbers)) h other)) (λ rest. rest) (has_part m (take 1 v.numbers) (drop 1 v.numbers) of_v),
+              ⊎_elim (λ (h : is_among m (take 1 v.numbers) ≡ true). absurd (not_both (is_among m (take 1 v.numbers)) h other)) (λ rest. rest) (has_part m (take 1 v.numbers) (drop 1 v.numbers) of_v),
             ))
             (λ apart. (
               h.0,
               subst (λ (k : ℕ). get_elem? (vs ++ right ∷ []) k ≡ some h.0) (sym same) (at_longer vs (right ∷ []) (r.owner m) h.0 (set_else s.views id (r.owner m) left apart ∙ h.1)),
               h.2,
             )))
-            (either_bool (has m (take 1 v.numbers)));
+            (either_bool (is_among m (take 1 v.numbers)));
         callers = r.callers;
       }
 
@@ -465,8 +466,8 @@ module _ {V B E : Type 0} (base : V → B) (history : V → List E) (caller : E 
   }
     where
       none_of : (es : List E) → AreOthers caller [] es
-      none_of [] = All-nil (λ e. has (caller e) [] ≡ false)
-      none_of (e ∷ es) = All-cons (λ e. has (caller e) [] ≡ false) e es refl (none_of es)
+      none_of [] = All-nil (λ e. is_among (caller e) [] ≡ false)
+      none_of (e ∷ es) = All-cons (λ e. is_among (caller e) [] ≡ false) e es refl (none_of es)
 
   pub joins : (id : ℕ) (v : K) (other : ℕ) (w : K) → v.stage ≡ Without → w.stage ≡ Without → Joins Rule id v other w (joined_view v w) spent_view
   joins id v other w idle idle_w s r at apart there_w =
@@ -482,20 +483,20 @@ module _ {V B E : Type 0} (base : V → B) (history : V → List E) (caller : E 
       let both_fits : Fits caller origin r.log r.holder r.stage r.who owner' id both = record {
         same_origin = f.same_origin;
         numbers = λ m is. ⊎_elim
-            (λ (mine : has m w.numbers ≡ true). ((g.numbers m mine).0, passed w.numbers id r.owner m mine))
-            (λ (not_w : has m w.numbers ≡ false). ⊎_elim
-            (λ (own : has m v.numbers ≡ true). let k = f.numbers m own in (k.0, not_passed w.numbers id r.owner m not_w ∙ k.1))
-            (λ (h : has m w.numbers ≡ true). absurd (not_both (has m w.numbers) h not_w))
+            (λ (mine : is_among m w.numbers ≡ true). ((g.numbers m mine).0, passed w.numbers id r.owner m mine))
+            (λ (not_w : is_among m w.numbers ≡ false). ⊎_elim
+            (λ (own : is_among m v.numbers ≡ true). let k = f.numbers m own in (k.0, not_passed w.numbers id r.owner m not_w ∙ k.1))
+            (λ (h : is_among m w.numbers ≡ true). absurd (not_both (is_among m w.numbers) h not_w))
             (has_part m v.numbers w.numbers is))
-            (either_bool (has m w.numbers));
+            (either_bool (is_among m w.numbers));
         seen = seen_longer caller r.log v.numbers w.numbers v.seen w.seen f.seen g.seen;
         looks = f.looks;
-        turn = λ has. absurd (not_both (has_turn v.stage) has idle_v);
+        turn = λ is_among. absurd (not_both (has_turn v.stage) is_among idle_v);
         seen_all = λ out. absurd (not_both (has_turn v.stage) (ap has_turn out) idle_v);
       } in
-      let stays : (k : ℕ) (u : K) → has_turn u.stage ≡ true → get_elem? s.views k ≡ some u → get_elem? (set vs other spent_view) k ≡ some u = λ k u has e.
-      let not_id : k ≢ id = λ z. not_both (has_turn v.stage) (subst (λ (y : K). has_turn y.stage ≡ true) (one_view s.views id u v (subst (λ (j : ℕ). get_elem? s.views j ≡ some u) z e) at) has) idle_v in
-      let not_other : k ≢ other = λ z. not_both (has_turn w.stage) (subst (λ (y : K). has_turn y.stage ≡ true) (one_view s.views other u w (subst (λ (j : ℕ). get_elem? s.views j ≡ some u) z e) at_w) has) idle_w' in
+      let stays : (k : ℕ) (u : K) → has_turn u.stage ≡ true → get_elem? s.views k ≡ some u → get_elem? (set vs other spent_view) k ≡ some u = λ k u is_among e.
+      let not_id : k ≢ id = λ z. not_both (has_turn v.stage) (subst (λ (y : K). has_turn y.stage ≡ true) (one_view s.views id u v (subst (λ (j : ℕ). get_elem? s.views j ≡ some u) z e) at) is_among) idle_v in
+      let not_other : k ≢ other = λ z. not_both (has_turn w.stage) (subst (λ (y : K). has_turn y.stage ≡ true) (one_view s.views other u w (subst (λ (j : ℕ). get_elem? s.views j ≡ some u) z e) at_w) is_among) idle_w' in
       set_else vs other k spent_view not_other ∙ (set_else s.views id k both not_id ∙ e) in
       record {
         log = r.log;
@@ -512,41 +513,41 @@ module _ {V B E : Type 0} (base : V → B) (history : V → List E) (caller : E 
             (λ (t : (k ≢ other) × (get_elem? vs k ≡ some u)). ⊎_elim
             (λ (q : (k ≡ id) × (both ≡ u)). subst (λ (z : ℕ × K). Fits caller origin r.log r.holder r.stage r.who owner' z.0 z.1) (λ i. (sym q.0 i, q.1 i)) both_fits)
             (λ (q : (k ≢ id) × (get_elem? s.views k ≡ some u)). reowned r.log r.holder r.stage r.who r.owner owner' k u
-            (λ m is own. not_passed w.numbers id r.owner m (not_true (has m w.numbers) (λ h. t.0 (sym own ∙ (g.numbers m h).1))) ∙ own)
+            (λ m is own. not_passed w.numbers id r.owner m (not_true (is_among m w.numbers) (λ h. t.0 (sym own ∙ (g.numbers m h).1))) ∙ own)
             (r.each k u q.1))
             (at_set s.views id k both u t.1))
             (at_set vs other k spent_view u e);
         owned = λ m is. let h = r.owned m is in ⊎_elim
-            (λ (mine : has m w.numbers ≡ true). (
+            (λ (mine : is_among m w.numbers ≡ true). (
               both,
               subst (λ (k : ℕ). get_elem? (set vs other spent_view) k ≡ some both) (sym (passed w.numbers id r.owner m mine)) at_both,
               has_back m v.numbers w.numbers mine,
             ))
-            (λ (not_w : has m w.numbers ≡ false). let same : owner' m ≡ r.owner m = not_passed w.numbers id r.owner m not_w in
+            (λ (not_w : is_among m w.numbers ≡ false). let same : owner' m ≡ r.owner m = not_passed w.numbers id r.owner m not_w in
             dite (ℕ_discrete (r.owner m) id)
             (λ e. let v_is : h.0 ≡ v = one_view s.views id h.0 v (subst (λ (k : ℕ). get_elem? s.views k ≡ some h.0) e h.1) at in (
               both,
               subst (λ (k : ℕ). get_elem? (set vs other spent_view) k ≡ some both) (sym (same ∙ e)) at_both,
-              has_front m v.numbers w.numbers (subst (λ (z : K). has m z.numbers ≡ true) v_is h.2),
+              has_front m v.numbers w.numbers (subst (λ (z : K). is_among m z.numbers ≡ true) v_is h.2),
             ))
-            (λ not_id. let not_other : r.owner m ≢ other = λ z. not_both (has m w.numbers) (subst (λ (y : K). has m y.numbers ≡ true) (one_view s.views other h.0 w (subst (λ (j : ℕ). get_elem? s.views j ≡ some h.0) z h.1) at_w) h.2) not_w in (
+            (λ not_id. let not_other : r.owner m ≢ other = λ z. not_both (is_among m w.numbers) (subst (λ (y : K). is_among m y.numbers ≡ true) (one_view s.views other h.0 w (subst (λ (j : ℕ). get_elem? s.views j ≡ some h.0) z h.1) at_w) h.2) not_w in (
               h.0,
               subst (λ (k : ℕ). get_elem? (set vs other spent_view) k ≡ some h.0) (sym same) (set_else vs other (r.owner m) spent_view not_other ∙ (set_else s.views id (r.owner m) both not_id ∙ h.1)),
               h.2,
             )))
-            (either_bool (has m w.numbers));
+            (either_bool (is_among m w.numbers));
         callers = r.callers;
       }
 
   -- where one pass has all numbers and not the turn, the value is in the slot, and the pass has seen its history
-  pub closes : (s : St) (r : Rule s) (id : ℕ) (v : K) → get_elem? s.views id ≡ some v → v.stage ≡ Without → ((n : ℕ) → IsNumber origin.passes n → has n v.numbers ≡ true)
+  pub closes : (s : St) (r : Rule s) (id : ℕ) (v : K) → get_elem? s.views id ≡ some v → v.stage ≡ Without → ((n : ℕ) → IsPassNumber origin.passes n → is_among n v.numbers ≡ true)
       → (x : V) × (s.homes ≡ some (Some x) ∷ []) × (base x ≡ origin.base) × IsPrefix v.seen (history x) × (history x ≡ entries_of caller v.numbers v.seen)
   closes s r id v at idle all =
       let f = r.each id v at in
       let free : r.stage ≡ Without = dite (ℕ_discrete r.holder 0) (λ e. r.free e)
-      (λ busy. let h = held_by_other s r id v at (ap has_turn idle) busy in absurd (not_both (has r.holder v.numbers) (all r.holder h.0) h.1)) in
+      (λ busy. let h = held_by_other s r id v at (ap has_turn idle) busy in absurd (not_both (is_among r.holder v.numbers) (all r.holder h.0) h.1)) in
       let l = subst (λ (st : Stage). IsPlaced base history st s.homes origin.base r.log) free r.place in
-      let mine : AreOf caller v.numbers r.log = All-weaker (λ e. IsNumber origin.passes (caller e)) (λ e. has_number v (caller e)) (λ e is. all (caller e) is) r.log r.callers in
+      let mine : AreOf caller v.numbers r.log = All-weaker (λ e. IsPassNumber origin.passes (caller e)) (λ e. has_number v (caller e)) (λ e is. all (caller e) is) r.log r.callers in
       (l.0, l.1, l.2, subst (λ (xs : List E). IsPrefix v.seen xs) (sym l.3) (seen_begins caller r.log v.numbers v.seen f.seen), l.3 ∙ seen_all_own caller r.log v.numbers v.seen mine f.seen)
 
   -- ---- for the calls
@@ -561,7 +562,7 @@ module _ {V B E : Type 0} (base : V → B) (history : V → List E) (caller : E 
 
   -- what the last state says of the value that is taken out of the closed table
   pub closed : (words : List ℕ) (slots : List (Option V)) (id : ℕ) (v : K) (found : Option V) → Final (Seen Rule id v) words slots → get_elem? slots 0 ≡ some found
-      → v.stage ≡ Without → ((n : ℕ) → IsNumber origin.passes n → has n v.numbers ≡ true)
+      → v.stage ≡ Without → ((n : ℕ) → IsPassNumber origin.passes n → is_among n v.numbers ≡ true)
       → (x : V) × (found ≡ Some x) × (base x ≡ origin.base) × IsPrefix v.seen (history x) × (history x ≡ entries_of caller v.numbers v.seen)
   closed words slots id v found final at idle all =
       let k = closes final.0 final.1.0 id v final.1.1 idle all in
@@ -569,13 +570,13 @@ module _ {V B E : Type 0} (base : V → B) (history : V → List E) (caller : E 
       (k.0, one_view slots 0 found (Some k.0) at there, k.2, k.3, k.4)
 
   pub closed_some : (words : List ℕ) (slots : List (Option V)) (id : ℕ) (v : K) (found : Option V) → Final (Seen Rule id v) words slots → get_elem? slots 0 ≡ some found
-      → v.stage ≡ Without → ((n : ℕ) → IsNumber origin.passes n → has n v.numbers ≡ true) → found ≡ None → ⊥
+      → v.stage ≡ Without → ((n : ℕ) → IsPassNumber origin.passes n → is_among n v.numbers ≡ true) → found ≡ None → ⊥
   closed_some words slots id v found final at idle all nothing =
       let k = closed words slots id v found final at idle all in
       let is : found ≡ Some k.0 = k.1 in absurd (cc)
 
   pub closed_value : (words : List ℕ) (slots : List (Option V)) (id : ℕ) (v : K) (found : Option V) (y : V) → Final (Seen Rule id v) words slots → get_elem? slots 0 ≡ some found
-      → v.stage ≡ Without → ((n : ℕ) → IsNumber origin.passes n → has n v.numbers ≡ true) → found ≡ Some y
+      → v.stage ≡ Without → ((n : ℕ) → IsPassNumber origin.passes n → is_among n v.numbers ≡ true) → found ≡ Some y
       → (base y ≡ origin.base) × IsPrefix v.seen (history y) × (history y ≡ entries_of caller v.numbers v.seen)
   closed_value words slots id v found y final at idle all is =
       let k = closed words slots id v found final at idle all in
@@ -607,9 +608,9 @@ took_own {V} {B} {E} history caller v m l c x y found won known taken out is =
 
 module _ {V B E : Type 0} (origin : Origin B) where
   pub left_first : (me : Me (Option V) (Known B E)) (n k : ℕ) → me ≡ (new_view origin (numbers_from n (suc k)), [])
-      → (me.0.stage ≡ Without) × (me.0.numbers ≡ n ∷ drop 1 me.0.numbers) × (has n (drop 1 me.0.numbers) ≡ false)
-  left_first me n k is = subst (λ (z : Me (Option V) (Known B E)). (z.0.stage ≡ Without) × (z.0.numbers ≡ n ∷ drop 1 z.0.numbers) × (has n (drop 1 z.0.numbers) ≡ false)) (sym is)
-      (refl, refl, not_true (has n (numbers_from (suc n) k)) (λ h. let r = has_range n (suc n) k h in absurd (omega arith)))
+      → (me.0.stage ≡ Without) × (me.0.numbers ≡ n ∷ drop 1 me.0.numbers) × (is_among n (drop 1 me.0.numbers) ≡ false)
+  left_first me n k is = subst (λ (z : Me (Option V) (Known B E)). (z.0.stage ≡ Without) × (z.0.numbers ≡ n ∷ drop 1 z.0.numbers) × (is_among n (drop 1 z.0.numbers) ≡ false)) (sym is)
+      (refl, refl, not_true (is_among n (numbers_from (suc n) k)) (λ h. let r = has_range n (suc n) k h in absurd (omega arith)))
 
   pub left_after : (me me' : Me (Option V) (Known B E)) (n k count : ℕ) → n + k ≡ count → n < count → me ≡ (new_view origin (numbers_from n (suc k)), []) → me' ≡ (others_view me.0, me.1)
       → (j : ℕ) × (n + 1 + j ≡ count) × (me' ≡ (new_view origin (numbers_from (n + 1) (suc j)), []))

@@ -7,7 +7,8 @@ use Rattle.turn_slot.specs.declared.pass.Turn.{Turn}
 use Rattle.turn_slot.specs.declared.pass.Take.{Take}
 use Rattle.turn_slot.specs.declared.pass.Take.TheVariants.{Took, Busy}
 use Rattle.turn_slot.specs.declared.slot.TurnSlot.{TurnSlot}
-use Rattle.turn_slot.specs.Entries.{has, IsNumber, entries_of}
+use Rattle.turn_slot.specs.Entries.{IsPassNumber, entries_of}
+use Rattle.c5_rows.specs.Numbers.{is_among}
 
 module _ {V B E : Type 0} where
   -- how many passes the slot was made with
@@ -51,14 +52,16 @@ module _ {V B E : Type 0} {G : Ghosts V B E} where
 
   -- it is a pass, or a turn, of this slot
   abbrev pub IsPassOf : TurnSlot V B E → Pass V B E G → Type 0
-  IsPassOf slot p = (p.seat.table_id ≡ slot.table.shared.table_id) × (p.seat.me.0.origin ≡ Some (origin_of G.base slot))
+  IsPassOf slot p = (p.seat.table_id ≡ slot.table.shared.table_id)
+      × (p.seat.me.0.origin ≡ Some (origin_of G.base slot))
 
   abbrev pub IsTurnOf : TurnSlot V B E → Turn V B E G → Type 0
-  IsTurnOf slot t = (t.seat.table_id ≡ slot.table.shared.table_id) × (t.seat.me.0.origin ≡ Some (origin_of G.base slot))
+  IsTurnOf slot t = (t.seat.table_id ≡ slot.table.shared.table_id)
+      × (t.seat.me.0.origin ≡ Some (origin_of G.base slot))
 
   -- the pass has each number of the slot
   abbrev pub HasAll : TurnSlot V B E → Pass V B E G → Type 0
-  HasAll slot p = (n : ℕ) → IsNumber (passes slot) n → has n (numbers p) ≡ true
+  HasAll slot p = (n : ℕ) → IsPassNumber (passes slot) n → is_among n (numbers p) ≡ true
 
   -- a pass of this slot that has seen and tried nothing
   abbrev pub IsNew : TurnSlot V B E → Pass V B E G → Type 0

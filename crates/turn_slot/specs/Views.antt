@@ -1,5 +1,6 @@
 -- What passes know, as plain data, and the rule of the slot.
-use Rattle.std.specs.Prelude.{◌≡◌, ◌≢◌, ℕ, ◌≤◌, Bool, true, false, List, [], ◌∷◌, ◌++◌, length, take, drop, slice_index, All, Option, Some, None}
+use Rattle.std.specs.Prelude.{◌≡◌, ◌≢◌, ℕ, ◌≤◌, Bool, true, false, List, [], ◌∷◌, ◌++◌, length}
+use Rattle.std.specs.Prelude.{take, drop, slice_index, All, Option, Some, None}
 use mathlib.Core.Option.{some, none}
 use mathlib.Core.Option as maybe
 use lib.ListN.{get_elem?}
@@ -8,7 +9,8 @@ use Rattle.turn_slot.specs.declared.known.Known.{Known}
 use Rattle.turn_slot.specs.declared.known.Origin.{Origin}
 use Rattle.turn_slot.specs.declared.known.Stage.{Stage}
 use Rattle.turn_slot.specs.declared.known.Stage.TheVariants.{Without, Won, Out, Back}
-use Rattle.turn_slot.specs.Entries.{count_of, has, numbers_from, IsNumber, longer, IsSeenOf}
+use Rattle.turn_slot.specs.Entries.{count_of, IsPassNumber, longer, IsSeenOf}
+use Rattle.c5_rows.specs.Numbers.{is_among, numbers_from}
 
 abbrev pub has_turn : Stage → Bool
 has_turn Without = false
@@ -23,7 +25,8 @@ pass_number numbers = slice_index numbers 0
 module _ {B E : Type 0} where
   -- a pass of these numbers that has seen and tried nothing
   abbrev pub new_view : Origin B → List ℕ → Known B E
-  new_view origin numbers = record { origin = Some origin; numbers = numbers; seen = []; looks = []; stage = Without }
+  new_view origin numbers =
+      record { origin = Some origin; numbers = numbers; seen = []; looks = []; stage = Without }
 
   -- the first pass, before any is split off
   abbrev pub first_view : Origin B → Known B E
@@ -35,21 +38,50 @@ module _ {B E : Type 0} where
 
   -- the parts of a split: the other numbers, and the first one
   abbrev pub others_view : Known B E → Known B E
-  others_view v = record { origin = v.origin; numbers = drop 1 v.numbers; seen = v.seen; looks = v.looks; stage = v.stage }
+  others_view v =
+      record {
+        origin = v.origin;
+        numbers = drop 1 v.numbers;
+        seen = v.seen;
+        looks = v.looks;
+        stage = v.stage;
+      }
 
   abbrev pub single_view : Known B E → Known B E
-  single_view v = record { origin = v.origin; numbers = take 1 v.numbers; seen = v.seen; looks = []; stage = Without }
+  single_view v =
+      record {
+        origin = v.origin;
+        numbers = take 1 v.numbers;
+        seen = v.seen;
+        looks = [];
+        stage = Without;
+      }
 
   abbrev pub joined_view : Known B E → Known B E → Known B E
-  joined_view v w = record { origin = v.origin; numbers = v.numbers ++ w.numbers; seen = longer v.seen w.seen; looks = v.looks; stage = v.stage }
+  joined_view v w =
+      record {
+        origin = v.origin;
+        numbers = v.numbers ++ w.numbers;
+        seen = longer v.seen w.seen;
+        looks = v.looks;
+        stage = v.stage;
+      }
 
   -- the exchange found n
   abbrev pub looked_view : Known B E → ℕ → Stage → Known B E
-  looked_view v n stage = record { origin = v.origin; numbers = v.numbers; seen = v.seen; looks = v.looks ++ n ∷ []; stage = stage }
+  looked_view v n stage =
+      record {
+        origin = v.origin;
+        numbers = v.numbers;
+        seen = v.seen;
+        looks = v.looks ++ n ∷ [];
+        stage = stage;
+      }
 
   -- this history was seen
   abbrev pub saw_view : Known B E → List E → Stage → Known B E
-  saw_view v seen stage = record { origin = v.origin; numbers = v.numbers; seen = seen; looks = v.looks; stage = stage }
+  saw_view v seen stage =
+      record { origin = v.origin; numbers = v.numbers; seen = seen; looks = v.looks; stage = stage }
 
   -- the origin that a pass knows
   abbrev pub IsFrom : Origin B → Known B E → Type 0
@@ -57,20 +89,25 @@ module _ {B E : Type 0} where
 
   -- it hasn't the turn and no slot, and it has a number
   abbrev pub IsIdle : {S : Type 0} → ℕ → Me S (Known B E) → Type 0
-  IsIdle number me = (me.1 ≡ []) × (me.0.stage ≡ Without) × (me.0.numbers ≡ number ∷ drop 1 me.0.numbers)
+  IsIdle number me = (me.1 ≡ []) × (me.0.stage ≡ Without)
+      × (me.0.numbers ≡ number ∷ drop 1 me.0.numbers)
 
   -- it has the turn, and the slot without its value
   abbrev pub IsOut : {V : Type 0} → ℕ → Me (Option V) (Known B E) → Type 0
-  IsOut {V} number me = (me.1 ≡ (0, None) ∷ []) × (me.0.stage ≡ Out) × (me.0.numbers ≡ number ∷ drop 1 me.0.numbers)
+  IsOut {V} number me = (me.1 ≡ (0, None) ∷ []) × (me.0.stage ≡ Out)
+      × (me.0.numbers ≡ number ∷ drop 1 me.0.numbers)
 
-module _ {B E : Type 0} (caller : E → ℕ) (origin : Origin B) (log : List E) (holder : ℕ) (stage : Stage) (who : ℕ) (owner : ℕ → ℕ) where
+module _ {B E : Type 0} (caller : E → ℕ) (origin : Origin B) (log : List E) (holder : ℕ)
+    (stage : Stage) (who : ℕ) (owner : ℕ → ℕ) where
   -- what the rule says of one seat
   pub record Fits (seat : ℕ) (v : Known B E) : Type 0 where
     pub same_origin : (o : Origin B) → v.origin ≡ Some o → o ≡ origin
-    pub numbers : (n : ℕ) → has n v.numbers ≡ true → IsNumber origin.passes n × (owner n ≡ seat)
+    pub numbers : (n : ℕ) → is_among n v.numbers ≡ true → IsPassNumber origin.passes n
+        × (owner n ≡ seat)
     pub seen : IsSeenOf caller log v.numbers v.seen
     pub looks : All (λ n. n ≤ origin.passes) v.looks
-    pub turn : has_turn v.stage ≡ true → (seat ≡ who) × (stage ≡ v.stage) × (pass_number v.numbers ≡ holder)
+    pub turn : has_turn v.stage ≡ true → (seat ≡ who) × (stage ≡ v.stage)
+        × (pass_number v.numbers ≡ holder)
     pub seen_all : v.stage ≡ Out → v.seen ≡ log
 
 module _ {V B E : Type 0} (base : V → B) (history : V → List E) where
@@ -85,8 +122,10 @@ module _ {V B E : Type 0} (base : V → B) (history : V → List E) where
   IsPlaced Out homes b log = homes ≡ none ∷ []
   IsPlaced Back homes b log = LiesIn homes b log
 
--- The rule. The log is the history of the value when it was last in the slot; `who` is the seat with the turn, and `owner` the seat of each number
-pub record IsKept {V B E : Type 0} (base : V → B) (history : V → List E) (caller : E → ℕ) (origin : Origin B) (s : State (Option V) (Known B E)) : Type 0 where
+-- The rule. The log is the history of the value when it was last in the slot; `who` is the seat
+-- with the turn, and `owner` the seat of each number
+pub record IsSlotKept {V B E : Type 0} (base : V → B) (history : V → List E) (caller : E → ℕ)
+    (origin : Origin B) (s : State (Option V) (Known B E)) : Type 0 where
   pub log : List E
   pub holder : ℕ
   pub stage : Stage
@@ -95,10 +134,13 @@ pub record IsKept {V B E : Type 0} (base : V → B) (history : V → List E) (ca
   pub words : s.words ≡ holder ∷ count_of (length log) ∷ []
   pub place : IsPlaced base history stage s.homes origin.base log
   pub free : holder ≡ 0 → stage ≡ Without
-  pub held : holder ≢ 0 → (v : Known B E) × (get_elem? s.views who ≡ some v) × (has_turn v.stage ≡ true)
-  pub each : (seat : ℕ) (v : Known B E) → get_elem? s.views seat ≡ some v → Fits caller origin log holder stage who owner seat v
-  pub owned : (n : ℕ) → IsNumber origin.passes n → (v : Known B E) × (get_elem? s.views (owner n) ≡ some v) × (has n v.numbers ≡ true)
-  pub callers : All (λ e. IsNumber origin.passes (caller e)) log
+  pub held : holder ≢ 0 → (v : Known B E) × (get_elem? s.views who ≡ some v)
+      × (has_turn v.stage ≡ true)
+  pub each : (seat : ℕ) (v : Known B E) → get_elem? s.views seat ≡ some v
+      → Fits caller origin log holder stage who owner seat v
+  pub owned : (n : ℕ) → IsPassNumber origin.passes n → (v : Known B E)
+      × (get_elem? s.views (owner n) ≡ some v) × (is_among n v.numbers ≡ true)
+  pub callers : All (λ e. IsPassNumber origin.passes (caller e)) log
 
 -- ---- what each step tells
 
@@ -109,17 +151,21 @@ module _ {V B E : Type 0} where
   -- the exchange found 0, and the pass has the turn; or it found the number of another pass
   abbrev pub tried : Step (Option V) → Sat V B E → ℕ → Sat V B E → Type 0
   tried st m n m' = (n ≡ 0 → m' ≡ (looked_view m.0 0 Won, m.1))
-      × (n ≢ 0 → (m' ≡ (looked_view m.0 n Without, m.1)) × (has n m.0.numbers ≡ false) × ((o : Origin B) → m.0.origin ≡ Some o → IsNumber o.passes n))
+      × (n ≢ 0 → (m' ≡ (looked_view m.0 n Without, m.1)) × (is_among n m.0.numbers ≡ false)
+      × ((o : Origin B) → m.0.origin ≡ Some o → IsPassNumber o.passes n))
 
   module _ (base : V → B) (history : V → List E) (caller : E → ℕ) where
     -- the slot was taken, with the value in it, whose history the pass has then seen
     abbrev pub took : Step (Option V) → Sat V B E → ℕ → Sat V B E → Type 0
-    took st m n m' = (x : V) × (m' ≡ (saw_view m.0 (history x) Out, (0, Some x) ∷ m.1)) × IsSeenOf caller (history x) m.0.numbers m.0.seen
-        × ((o : Origin B) → m.0.origin ≡ Some o → base x ≡ o.base) × (n ≡ count_of (length (history x)))
+    took st m n m' = (x : V) × (m' ≡ (saw_view m.0 (history x) Out, (0, Some x) ∷ m.1))
+        × IsSeenOf caller (history x) m.0.numbers m.0.seen
+        × ((o : Origin B) → m.0.origin ≡ Some o → base x ≡ o.base)
+        × (n ≡ count_of (length (history x)))
 
   -- the slot was given back, with the value in it
   abbrev pub gave : (V → List E) → Step (Option V) → Sat V B E → ℕ → Sat V B E → Type 0
-  gave history st m n m' = (x : V) → m.1 ≡ (0, Some x) ∷ [] → m' ≡ (saw_view m.0 (history x) Back, [])
+  gave history st m n m' = (x : V) → m.1 ≡ (0, Some x) ∷ []
+      → m' ≡ (saw_view m.0 (history x) Back, [])
 
   -- the turn was ended
   abbrev pub ended : Step (Option V) → Sat V B E → ℕ → Sat V B E → Type 0

@@ -2,9 +2,12 @@
 
 ghost use Rattle.std.specs.Prelude.{◌≡◌, ◌≢◌, List, [], ◌∷◌, ◌++◌, true, false};
 ghost use mathlib.Core.List.{IsPrefix};
-ghost use Rattle.turn_slot.specs.Entries.{has, longer, entries_of, IsNumber, AreOf};
+ghost use Rattle.turn_slot.specs.Entries.{longer, entries_of, IsPassNumber, AreOf};
+ghost use Rattle.c5_rows.specs.Numbers.{is_among};
 ghost use Rattle.turn_slot.specs.Views.{pass_number};
-ghost use Rattle.turn_slot.specs.Passes.{passes, base_of, numbers, seen, looks, own, turn_numbers, turn_seen, turn_looks, IsPassOf, IsTurnOf, HasAll, IfTook, IfBusy, IsTook};
+ghost use Rattle.turn_slot.specs.Passes.{passes, base_of, numbers, seen, looks, own, turn_numbers};
+ghost use Rattle.turn_slot.specs.Passes.{turn_seen, turn_looks, IsPassOf, IsTurnOf, HasAll, IfTook};
+ghost use Rattle.turn_slot.specs.Passes.{IfBusy, IsTook};
 
 use crate::kept::Kept;
 use crate::pass::{Pass, Take, Turn};
@@ -15,25 +18,30 @@ impl<V: Kept> Pass<V> {
     /// The pass's number, which is the first that it unites.
     pub fn number(&self) -> u64
         ensures first { result ≡ pass_number (numbers self.now) }
-        ensures among { has result (numbers self.now) ≡ true }
+        ensures among { is_among result (numbers self.now) ≡ true }
     {
         self.number
     }
 }
 
 impl<V: Kept> TurnSlot<V> {
-    /// Tries for the turn. One exchange decides: it finds 0, or the number of the pass that has the turn.
+    /// Tries for the turn. One exchange decides: it finds 0, or the number of the pass that has the
+    /// turn.
     pub fn try_take(&self, pass: Pass<V>) -> Take<V>
         requires { IsPassOf self.now pass }
-        ensures turn { IfTook result (λ x t. IsTurnOf self.now t × (turn_numbers t ≡ numbers pass)) }
+        ensures turn { IfTook result
+            (λ x t. IsTurnOf self.now t × (turn_numbers t ≡ numbers pass)) }
         ensures took { IfTook result (λ x t. turn_looks t ≡ looks pass ++ 0 ∷ []) }
         ensures base { IfTook result (λ x t. V.base x ≡ base_of V.base self.now) }
         ensures history { IfTook result (λ x t. turn_seen t ≡ V.history x) }
         ensures seen { IfTook result (λ x t. IsPrefix (seen pass) (V.history x)) }
-        ensures own { IfTook result (λ x t. entries_of V.caller (numbers pass) (V.history x) ≡ own pass) }
-        ensures pass { IfBusy result (λ n p. IsPassOf self.now p × (numbers p ≡ numbers pass) × (seen p ≡ seen pass)) }
+        ensures own { IfTook result
+            (λ x t. entries_of V.caller (numbers pass) (V.history x) ≡ own pass) }
+        ensures pass { IfBusy result
+            (λ n p. IsPassOf self.now p × (numbers p ≡ numbers pass) × (seen p ≡ seen pass)) }
         ensures found { IfBusy result (λ n p. (looks p ≡ looks pass ++ n ∷ []) × (n ≢ 0)) }
-        ensures holder { IfBusy result (λ n p. IsNumber (passes self.now) n × (has n (numbers pass) ≡ false)) }
+        ensures holder { IfBusy result
+            (λ n p. IsPassNumber (passes self.now) n × (is_among n (numbers pass) ≡ false)) }
         ensures never_busy { HasAll self.now pass → IsTook result }
     {
         let Pass { number, mut seat } = pass;
@@ -60,7 +68,8 @@ impl<V: Kept> TurnSlot<V> {
     pub fn give(&self, turn: Turn<V>, value: V) -> Pass<V>
         requires turn { IsTurnOf self.now turn }
         requires base { V.base value ≡ base_of V.base self.now }
-        requires history { (more : List V.Entry) × (V.history value ≡ turn_seen turn ++ more) × AreOf V.caller (turn_numbers turn) more }
+        requires history { (more : List V.Entry) × (V.history value ≡ turn_seen turn ++ more)
+            × AreOf V.caller (turn_numbers turn) more }
         ensures pass { IsPassOf self.now result }
         ensures numbers { numbers result ≡ turn_numbers turn }
         ensures seen { seen result ≡ V.history value }

@@ -3,7 +3,8 @@
 ghost use Rattle.std.specs.Prelude.{◌≡◌, ℕ, List, length};
 ghost use Rattle.turn_slot.specs.Entries.{count_of};
 
-/// A value with a base and a history. No call on a slot changes the base, and the history only grows.
+/// A value with a base and a history. No call on a slot changes the base, and the history only
+/// grows.
 pub trait Kept {
     /// What the value was made with.
     type Base;

@@ -1,9 +1,10 @@
 //! A new slot, and its passes.
 
 ghost use Rattle.std.specs.Prelude.{◌≡◌, ◌≤◌, [], ◌∷◌, IfOk, map, All, vec_capacity};
-ghost use Rattle.turn_slot.specs.Entries.{numbers_from};
+ghost use Rattle.c5_rows.specs.Numbers.{numbers_from};
 ghost use Rattle.turn_slot.specs.Views.{first_view};
 ghost use Rattle.turn_slot.specs.Passes.{passes as passes_of, base_of, origin_of, numbers, IsNew};
+ghost use Rattle.c5_rows.specs.Sizes.{max_passes};
 
 use crate::kept::Kept;
 use crate::known::Known;
@@ -24,11 +25,13 @@ impl<V: Kept> TurnSlot<V> {
     ) -> Result<(TurnSlot<V>, Vec<Pass<V>>), NoMemory>
     where
         V: Drop,
-        requires passes { (1 ≤ passes) × (passes ≤ 64) }
+        requires passes { (1 ≤ passes) × (passes ≤ max_passes) }
         requires empty { V.history value ≡ [] }
-        ensures slot { IfOk result (λ r. (passes_of r.0 ≡ passes) × (base_of V.base r.0 ≡ V.base value)) }
+        ensures slot { IfOk result
+            (λ r. (passes_of r.0 ≡ passes) × (base_of V.base r.0 ≡ V.base value)) }
         ensures new { IfOk result (λ r. All (IsNew r.0) r.1.items) }
-        ensures numbers { IfOk result (λ r. map numbers r.1.items ≡ map (λ n. n ∷ []) (numbers_from 1 passes)) }
+        ensures numbers { IfOk result
+            (λ r. map numbers r.1.items ≡ map (λ n. n ∷ []) (numbers_from 1 passes)) }
     {
         let count = u64::from(passes);
         let mut list = Vec::with_capacity(alloc, passes as usize)?;
@@ -53,7 +56,8 @@ impl<V: Kept> TurnSlot<V> {
         count: u64,
         list: &mut Vec<Pass<V>>,
     )
-        requires seat { (seat.table_id ≡ self.now.table.shared.table_id) × (seat.me ≡ (first_view (origin_of V.base self.now), [])) }
+        requires seat { (seat.table_id ≡ self.now.table.shared.table_id)
+            × (seat.me ≡ (first_view (origin_of V.base self.now), [])) }
         requires count { (count ≡ passes_of self.now) × (1 ≤ count) }
         requires room { (list.old.items ≡ []) × (count ≤ vec_capacity list.old) }
         ensures new { All (IsNew self.now) list.new.items }

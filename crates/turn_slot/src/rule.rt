@@ -1,5 +1,5 @@
-//! The rule of the slot, and what each step on it tells.
-//! Word 0 is the holder word: 0, or the number of the pass that has the turn. Word 1 is the count word: the length of the history.
+//! The rule of the slot, and what each step on it tells. Word 0 is the holder word: 0, or the
+//! number of the pass that has the turn. Word 1 is the count word: the length of the history.
 
 use crate::kept::Kept;
 use crate::known::Known;
@@ -20,11 +20,13 @@ pub struct Opening<V> {
 pub struct TurnRule;
 
 impl<V: Kept> TableRule<Option<V>, Known<V::Base, V::Entry>, Opening<V>> for TurnRule {
-    ghost use Rattle.turn_slot.specs.Views.{IsKept, first_view};
+    ghost use Rattle.turn_slot.specs.Views.{IsSlotKept, first_view};
 
-    ghost holds = { λ key. IsKept V.base V.history V.caller (record { base = V.base key.value.value; passes = key.passes }) };
+    ghost holds = { λ key. IsSlotKept V.base V.history V.caller
+        (record { base = V.base key.value.value; passes = key.passes }) };
 
-    ghost first = { λ key. first_view (record { base = V.base key.value.value; passes = key.passes }) };
+    ghost first = { λ key. first_view
+        (record { base = V.base key.value.value; passes = key.passes }) };
 }
 
 /// The exchange of the holder word.

@@ -33,7 +33,8 @@ impl Kept for Counter {
 impl Counter {
     fn add(&mut self, by: u64) -> bool
         ensures start { self.new.start ≡ self.old.start }
-        ensures added { MatchBool result (self.new.added.items ≡ self.old.added.items ++ by ∷ []) (self.new.added.items ≡ self.old.added.items) }
+        ensures added { MatchBool result (self.new.added.items ≡ self.old.added.items ++ by ∷ [])
+            (self.new.added.items ≡ self.old.added.items) }
     {
         match self.added.push(by) {
             Ok(()) => true,

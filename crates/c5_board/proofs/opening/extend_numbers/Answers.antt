@@ -1,6 +1,6 @@
 use Rattle.std.proofs.Common.{◌≡◌, ℕ, suc, ◌+◌, ◌-◌, ◌++◌, List, [], ◌∷◌, length, arith, ap, ◌∙◌, sym, length-append}
 use Rattle.std.proofs.lemmas.List.{append-nil, append_assoc}
-use Rattle.c5_board.specs.Sets.{numbers_from}
+use Rattle.c5_rows.specs.Numbers.{numbers_from}
 use Rattle.c5_board.proofs.opening.extend_numbers.Goals as goal
 
 one_more : (xs : List ℕ) (i n m : ℕ) → n ≡ suc m → (xs ++ i ∷ []) ++ numbers_from (i + 1) m ≡ xs ++ numbers_from i n

@@ -1,5 +1,5 @@
 use Rattle.std.proofs.Common.{◌≡◌, ◌+◌, ◌-◌, ◌++◌, length}
-use Rattle.c5_board.specs.Sets.{numbers_from}
+use Rattle.c5_rows.specs.Numbers.{numbers_from}
 use Rattle.c5_board.proofs.opening.extend_numbers.Given as goal
 
 abbrev pub invariant-loop-i : goal.invariant-loop-i

@@ -2,7 +2,7 @@ use Rattle.std.proofs.Common.{◌≡◌, ◌∙◌, ◌++◌, ◌∷◌, [], Non
 use Rattle.std.specs.Map.{lookup}
 use Rattle.c5_definitions.specs.History.{begun, commits}
 use Rattle.std.specs.List.{AllZip}
-use Rattle.c5_order.specs.Marks.{mark_at, installed}
+use Rattle.c5_order.specs.Marks.{noted_mark, mark_after_install}
 use Rattle.std.specs.BTreeSet.{contains}
 use Rattle.std.specs.Ordering.{nat_cmp}
 use Rattle.c5_definitions.specs.declared.history.Event.TheVariants as events
@@ -35,7 +35,7 @@ returns-clause-holds c =
     let len = rw was at c.remove.ensures.len in
     let q = commit-book (base_of book) book.last book.history.items c.push_reserved.new.self.items book.txns.items (contains nat_cmp book.open_stamps) (contains nat_cmp c.remove.new.self) book.states.items book.versions c.install.new.versions o.0 c.txn_of-txn.result c.args.stamp c.place_of-place.result c.args.writes.now c.in_ok-copy.copy
     (parts-of book c.requires.holds) o.1 o.2 (c.txn_of-txn.ensures.txn o.0 o.1 o.2) c.place_of-place.ensures.place o.3 c.as_slice.ensures.ascending c.requires.free c.in_ok-copy.ensures c.remove.ensures.updates.0
-    (λ q. c.in_ok-install.ensures.ok q ∙ ap (λ ws. installed c.args.stamp ws q (mark_at book.versions q)) c.as_slice.ensures.value) c.push_reserved.ensures.items in
+    (λ q. c.in_ok-install.ensures.ok q ∙ ap (λ ws. mark_after_install c.args.stamp ws q (noted_mark book.versions q)) c.as_slice.ensures.value) c.push_reserved.ensures.items in
     record {
       allowed = q.allowed;
       last = q.last_is;

@@ -1,6 +1,6 @@
 use Rattle.std.proofs.Common.{◌≡◌, ◌∙◌, ap, subst, take}
 use Rattle.std.specs.Prelude.{IfOk}
-use Rattle.c5_definitions.specs.OrderLog.{log_of}
+use Rattle.c5_definitions.specs.OrderLog.{history_log}
 use Rattle.c5_order.specs.Book.{logged}
 use Rattle.c5_order.proofs.LogLemmas.{log-is}
 use Rattle.c5_order.proofs.logging.log.Goals as goal

@@ -1,7 +1,7 @@
 use Rattle.std.proofs.Common.{rules, ◌≡◌, ◌∙◌, arith, subst, Some, slice_get}
 use Rattle.std.specs.Cmp.Rules.{comparing}
 use Rattle.c5_definitions.specs.WriteNumbers.{names_in}
-use Rattle.c5_plan.specs.Noted.{named, Notes}
+use Rattle.c5_plan.specs.Noted.{name_of_ref, Notes}
 use Rattle.c5_plan.proofs.Noting.{Notes-none, Notes-inserted, length-noted, length-noted_le, name-parts, length-names_at}
 use Rattle.c5_plan.proofs.written.noted.Goals as goal
 
@@ -10,7 +10,7 @@ loop-before-init c = record { notes = Notes-none (names_in c.args.log.now.txns) 
 
 pub returns-then-len-most : goal.returns-then-len-most
 returns-then-len-most c =
-    let at : slice_get (names_in c.args.log.now.txns) c.loop-before.before ≡ Some (named (record { table = c.table.result; key = c.key.result })) =
+    let at : slice_get (names_in c.args.log.now.txns) c.loop-before.before ≡ Some (name_of_ref (record { table = c.table.result; key = c.key.result })) =
     name-parts c.args.log.now.txns c.loop-before.before _ c.write-write.result (record { table = c.table.result; key = c.key.result }) c.write-write.ensures (omega arith) c.table.ensures c.key.ensures in
     let few = length-noted_le _ (names_in c.args.log.now.txns) _
     (Notes-inserted _ (λ a b. search (comparing, rules)) _ _ (names_in c.args.log.now.txns) c.loop-before.before _ c.loop-before.invariant.notes at c.in_ok-insert.ensures.entries c.len.ensures.unique) in
@@ -18,7 +18,7 @@ returns-then-len-most c =
 
 pub loop-before-preserved : goal.loop-before-preserved
 loop-before-preserved c =
-    let at : slice_get (names_in c.args.log.now.txns) c.loop-before.before ≡ Some (named (record { table = c.table.result; key = c.key.result })) =
+    let at : slice_get (names_in c.args.log.now.txns) c.loop-before.before ≡ Some (name_of_ref (record { table = c.table.result; key = c.key.result })) =
     name-parts c.args.log.now.txns c.loop-before.before _ c.write-write.result (record { table = c.table.result; key = c.key.result }) c.write-write.ensures (omega arith) c.table.ensures c.key.ensures in
     record {
       notes = Notes-inserted _ (λ a b. search (comparing, rules)) _ _ (names_in c.args.log.now.txns) c.loop-before.before _ c.loop-before.invariant.notes at c.in_ok-insert.ensures.entries c.len.ensures.unique;

@@ -1,7 +1,7 @@
 use Rattle.std.proofs.Common.{◌≡◌, ◌∙◌, Some, get_or, ap, sym, subst}
 use Rattle.std.specs.List.{slice_get}
 use Rattle.std.proofs.lemmas.Option.{slice_get-get_or}
-use Rattle.c5_primary.specs.Latest.{row_left, IsLeftAt}
+use Rattle.c5_primary.specs.Latest.{row_kept, IsLeftAt}
 use Rattle.c5_primary.proofs.LatestLaws.{place-within, row-there}
 use Rattle.c5_primary.proofs.latest.row_after.Goals as goal
 
@@ -18,7 +18,7 @@ returns-in-Some c =
     let txn = get_or txns place c.index-txns-place.result in
     let left = subst (IsLeftAt c.args.start.now txns name) (sym c.in-Some.ensures.value) (c.requires name) in
     let at : slice_get txns place ≡ Some txn = slice_get-get_or txns place c.index-txns-place.result (place-within c.args.start.now txns name place left) in
-    c.row_left.ensures ∙ ap row_left c.find.ensures ∙ row-there c.args.start.now txns name place txn left at
+    c.row_left.ensures ∙ ap row_kept c.find.ensures ∙ row-there c.args.start.now txns name place txn left at
 
 pub returns-in-None : goal.returns-in-None
 returns-in-None c =

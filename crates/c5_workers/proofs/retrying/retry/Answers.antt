@@ -1,6 +1,6 @@
 use Rattle.std.proofs.Common.{◌≡◌, ◌∙◌, ◌+◌, ◌≤◌, ◌<◌, ℕ, List, length, get_or, set, ap, sym, subst, arith, true}
 use Rattle.c5_board.specs.Boards.{Board, Pass, names}
-use Rattle.c5_board.specs.Sets.{has}
+use Rattle.c5_rows.specs.Numbers.{is_among}
 use Rattle.c5_chains.specs.declared.install.Install.TheVariants.{Installed, PutOff}
 use Rattle.c5_chains.specs.Tries.{tried, head_found}
 use Rattle.c5_workers.specs.Tries.{IsRetrying}
@@ -12,7 +12,7 @@ pub try_install-requires-clause-role : goal.try_install-requires-clause-role
 try_install-requires-clause-role c =
     let less : c.loop-place.place < length c.loop-place.list = omega arith in
     let ready = retry-ready _ _ _ _ _ _ _ _ c.loop-place.invariant.retrying less in
-    subst (λ (i : ℕ). has i c.loop-place.pass.roles ≡ true) (sym ready.0.owned) c.loop-place.invariant.retrying.fits.role
+    subst (λ (i : ℕ). is_among i c.loop-place.pass.roles ≡ true) (sym ready.0.owned) c.loop-place.invariant.retrying.fits.role
 
 pub try_install-requires-clause-write : goal.try_install-requires-clause-write
 try_install-requires-clause-write c =

@@ -2,7 +2,7 @@ use Rattle.std.proofs.Common.{arith, subst, sym, refl, ◌∙◌}
 use Rattle.atomic_table.specs.Table.{Splits}
 use Rattle.c5_board.specs.Boards.{Pass}
 use Rattle.c5_board.specs.Rule.{IsKept}
-use Rattle.c5_board.specs.HeldPass.{shown}
+use Rattle.c5_board.specs.HeldPass.{shown_pass}
 use Rattle.c5_board.specs.Views.{Taken, rest_view, part_view}
 use Rattle.c5_board.specs.Cuts.{Holds}
 use Rattle.c5_board.proofs.PartSteps.{splits_seat}
@@ -18,7 +18,7 @@ split_seat-part-requires g c =
     let q = same_board c.args.self.now c.args.pass _ c.pass.view_is c.requires.pass in
     let m = met c.self.inside c.self.invariant c.pass.inside.seat.table_id c.pass.inside.seat.me.0 (c.self.view_is ∙ q) in
     let taken = g.J.Picks.taken in
-    let holds = subst (λ (t : Taken). Holds (shown c.pass.inside) t) (sym c.requires.taken) (subst (λ (p : Pass). Holds p (record { worker = c.args.worker; snapshot = c.args.snapshot; scheduler = c.args.scheduler })) (sym c.pass.view_is) c.requires.holds) in
+    let holds = subst (λ (t : Taken). Holds (shown_pass c.pass.inside) t) (sym c.requires.taken) (subst (λ (p : Pass). Holds p (record { worker = c.args.worker; snapshot = c.args.snapshot; scheduler = c.args.scheduler })) (sym c.pass.view_is) c.requires.holds) in
     let count = m.count in (
       m.same_table,
       omega arith,
@@ -32,5 +32,5 @@ invariant_of-result g c = rest_pass c.pass.inside _ g.J.Picks.taken refl c.split
 pub invariant_of-result-2 : goal.invariant_of-result-2
 invariant_of-result-2 g c =
     let taken = g.J.Picks.taken in
-    let holds = subst (λ (t : Taken). Holds (shown c.pass.inside) t) (sym c.requires.taken) (subst (λ (p : Pass). Holds p (record { worker = c.args.worker; snapshot = c.args.snapshot; scheduler = c.args.scheduler })) (sym c.pass.view_is) c.requires.holds) in
+    let holds = subst (λ (t : Taken). Holds (shown_pass c.pass.inside) t) (sym c.requires.taken) (subst (λ (p : Pass). Holds p (record { worker = c.args.worker; snapshot = c.args.snapshot; scheduler = c.args.scheduler })) (sym c.pass.view_is) c.requires.holds) in
     part_pass c.pass.inside _ g.J.Picks.taken holds refl c.split_seat-part.ensures.3 c.split_seat-part.ensures.4 c.pass.invariant

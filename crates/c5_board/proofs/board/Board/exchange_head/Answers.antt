@@ -3,7 +3,7 @@ use Rattle.c5_definitions.specs.WriteNumbers.{names_in, row_of, predecessor_of, 
 use mathlib.Core.Logic.{dite}
 use native.Mathlib.Decide.{ℕ_discrete}
 use Rattle.c5_board.specs.declared.known.Record.{Record}
-use Rattle.c5_board.specs.Sets.{has}
+use Rattle.c5_rows.specs.Numbers.{is_among}
 use Rattle.c5_board.specs.Words.{head_word}
 use Rattle.c5_board.specs.Boards.{Board, Pass, names, record_of}
 use Rattle.c5_board.specs.Passes.{CoversRow}
@@ -23,9 +23,9 @@ compare_exchange-found-requires c =
     let slots = c.self.inside.table.shared.table_id.slots in
     let q = same_board c.args.self.now c.args.pass.now _ c.pass.view_is c.requires.pass in
     let m = met c.self.inside c.self.invariant c.pass.inside.seat.table_id c.pass.inside.seat.me.0 (c.self.view_is ∙ q) in
-    let role = subst (λ (p : Pass). has (owner_of p.board.workers c.args.w) p.roles ≡ true) (sym c.pass.view_is) c.requires.role in
+    let role = subst (λ (p : Pass). is_among (owner_of p.board.workers c.args.w) p.roles ≡ true) (sym c.pass.view_is) c.requires.role in
     let within = subst (λ (p : Pass). c.args.w ≤ p.scheduled) (sym c.pass.view_is) c.requires.write.1 in
-    let fresh = subst (λ (p : Pass). has c.args.w p.installed ≡ false) (sym c.pass.view_is) c.requires.not_installed in
+    let fresh = subst (λ (p : Pass). is_among c.args.w p.installed ≡ false) (sym c.pass.view_is) c.requires.not_installed in
     let most = c.pass.invariant.sound.scheduled in
     let is : IsWrite (names_in me.0.log.txns) c.args.w = record { positive = c.requires.write.0; within = omega arith } in
     let link = c.requires.link ∙ ap (λ (z : Board). record_of (names z) c.args.w) q in

@@ -1,6 +1,6 @@
 use Rattle.std.proofs.Common.{◌≡◌, ℕ, suc, [], ◌∷◌, map, length, vec_capacity, ◌+◌}
 use Rattle.std.specs.Prelude.{All}
-use Rattle.turn_slot.specs.Entries.{numbers_from}
+use Rattle.c5_rows.specs.Numbers.{numbers_from}
 use Rattle.turn_slot.specs.Views.{new_view}
 use Rattle.turn_slot.specs.Passes.{numbers, origin_of, IsNew}
 use Rattle.turn_slot.proofs.slot.TurnSlot.deal.Given as goal
