@@ -18,7 +18,7 @@ use Rattle.c5_definitions.specs.Follows.{Read}
 abbrev pub table_names : ℕ → List (List ℕ) → List RowName
 table_names table keys = map (λ key. record { table = table; key = key }) keys
 
--- the names of the rows that a line asks for; a repeated key stands again
+-- the names of the rows that a line asks for; a repeated key comes again
 abbrev pub names_of_line : ReadLine → List RowName
 names_of_line (OneRow name) = name ∷ []
 names_of_line (SumOf table col keys) = table_names table keys
@@ -27,7 +27,7 @@ names_of_line (SumOf table col keys) = table_names table keys
 abbrev pub asked_names : List ReadLine → List RowName
 asked_names lines = flat_map names_of_line lines
 
--- the number, or 0 where there is none
+-- the number, or 0 if there is none
 abbrev pub or_zero : Option ℤ → ℤ
 or_zero None = pos 0
 or_zero (Some n) = n

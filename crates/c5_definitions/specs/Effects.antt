@@ -16,7 +16,7 @@ int_of_cell None = None
 int_of_cell (Some (Int n)) = Some n
 int_of_cell (Some (Txt bytes)) = None
 
--- the number in a column; none where there is no row, or no Int cell in the column
+-- the number in a column; none if there is no row, or no Int cell in the column
 abbrev pub int_in_column : ℕ → Option (List Cell) → Option ℤ
 int_in_column col None = None
 int_in_column col (Some row) = int_of_cell (slice_get row col)
@@ -53,7 +53,7 @@ abbrev pub need_effect : Option ℤ → Rel → ℤ → Effect
 need_effect None rel n = declines
 need_effect (Some cell) rel n = if compares rel cell n then keeps else declines
 
--- declines where there is no number, or the sum is no i64
+-- declines where there is no number, or the sum isn't an i64
 abbrev pub add_effect : RowName → ℕ → Option (List Cell) → Option ℤ → ℤ → Effect
 add_effect name col None cell n = declines
 add_effect name col (Some row) None n = declines

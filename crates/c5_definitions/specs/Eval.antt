@@ -11,7 +11,7 @@ use Rattle.c5_rows.specs.State.{State, after_change}
 use Rattle.c5_definitions.specs.declared.script.Statement.{Statement}
 use Rattle.c5_definitions.specs.Effects.{declines, keeps, sets, needed, effect_of}
 
--- a put of the row, or a gone where there is none
+-- a put of the row, or a gone if there is none
 abbrev pub change_to : Option (List Cell) → Change
 change_to (Some row) = Put row
 change_to None = Gone

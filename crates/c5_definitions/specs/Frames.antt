@@ -79,7 +79,7 @@ unfoldable pub table_numbered : ℕ → List TableDef → Result TableDef LogKin
 table_numbered number tables = elim
     (slice_get tables number) [ None ↦ Err kinds.Table | Some table ↦ Ok table ]
 
--- what stands behind the byte `W`: the number of the table, the key, the change
+-- what follows the byte `W`: the number of the table, the key, the change
 unfoldable pub write_at : List TableDef → List ℕ → Result Write LogKind
 write_at tables [] = Err kinds.Table
 write_at tables (number ∷ rest) = do
@@ -88,7 +88,7 @@ write_at tables (number ∷ rest) = do
   change ← change_at table.columns key.1
   Ok (record { name = record { table = number; key = key.0 }; change = change })
 
--- what stands behind the byte `C`: the script number, the stamp, the number of writes
+-- what follows the byte `C`: the script number, the stamp, the number of writes
 unfoldable pub mark_at : List ℕ → Result Mark LogKind
 mark_at bytes = if length bytes == 16
     then Ok (record {
@@ -97,7 +97,7 @@ mark_at bytes = if length bytes == 16
       count = number_32 (drop 12 bytes);
     }) else Err kinds.Length
 
--- what stands behind the byte `E`: the number of transactions
+-- what follows the byte `E`: the number of transactions
 unfoldable pub end_at : List ℕ → Result ℕ LogKind
 end_at bytes = if length bytes == 4 then Ok (number_32 bytes) else Err kinds.Length
 

@@ -2,7 +2,7 @@
 --
 -- A log is a list of items. Each is tested once all its bytes have come. What has been read before
 -- an item says which item it is, how many bytes it has, and which tests it must pass. The first
--- item that fails one is the fault; where none fails and the end mark has not come whole, the item
+-- item that fails one is the fault; if none fails and the end mark isn't complete, the item
 -- that is not whole is cut.
 use Rattle.std.specs.Prelude.{ℕ, ◌+◌, ◌-◌, ◌&&◌, ◌||◌, ◌==◌, Bool, true, nat_lt, is_some, List, []}
 use Rattle.std.specs.Prelude.{◌∷◌, ◌++◌, length, slice_get, Option, Some, None, Result, Ok, Err}
@@ -41,7 +41,7 @@ pub data Item : Type 0 where
   frame_payload : (size : ℕ) → Item
   nothing_more : Item
 
--- how many bytes an item has; behind the end mark the first byte is one too many
+-- how many bytes an item has; after the end mark the first byte is one too many
 abbrev pub size_of : Item → ℕ
 size_of the_magic = 4
 size_of table_count = 1
@@ -187,7 +187,7 @@ abbrev pub begin_of : Item → ℕ → ℕ
 begin_of (frame_payload size) offset = offset - 4
 begin_of item offset = offset
 
--- an item that has come whole
+-- an item that is complete
 unfoldable pub after_whole : Reading → List ℕ → Result Reading LogFault
 after_whole r bytes = elim (after_item r.so_far.next r.so_far bytes) [
   | Ok s ↦ Ok (record { so_far = s; offset = r.offset + length bytes; come = [] })
@@ -219,7 +219,7 @@ pub record LogParts : Type 0 where
   pub tables : List TableDef
   pub txns : List Txn
 
--- at the end of the input the end mark has come whole
+-- at the end of the input the end mark is complete
 unfoldable pub whole_from : Item → Reading → Result LogParts LogFault
 whole_from nothing_more r = Ok (record { tables = r.so_far.tables; txns = r.so_far.txns })
 whole_from item r = Err (record { offset = begin_of item r.offset; kind = kinds.Cut })

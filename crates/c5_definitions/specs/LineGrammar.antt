@@ -22,12 +22,12 @@ abbrev pub IsWord : Word → Type 0
 IsWord (bare bytes) = (1 ≤ length bytes) × IsTrue (list_all is_key_byte bytes)
 IsWord (quoted text) = IsTrue (list_all is_text_byte text)
 
--- the bytes of a word; a text stands between two quotes
+-- the bytes of a word; a text is between two quotes
 abbrev pub spelled_word : Word → List ℕ
 spelled_word (bare bytes) = bytes
 spelled_word (quoted text) = 34 ∷ text ++ 34 ∷ []
 
--- blanks, a word that the line's end or a blank follows, and then the other words; blanks behind
+-- blanks, a word that the line's end or a blank follows, and then the other words; blanks after
 -- the last
 unfoldable pub IsLineOf : List Word → List ℕ → Type 0
 IsLineOf [] line = IsBlank line

@@ -15,7 +15,7 @@ lines_of [] = []
 lines_of (byte ∷ bytes) = if byte == 10 then [] ∷ lines_of bytes
     else onto_first byte (lines_of bytes)
 
--- the bytes behind so many lines
+-- the bytes after so many lines
 unfoldable pub behind_lines : ℕ → List ℕ → List ℕ
 behind_lines zero bytes = bytes
 behind_lines (suc count) [] = []
@@ -28,8 +28,8 @@ behind_lines (suc count) (byte ∷ bytes) = if byte == 10 then behind_lines coun
 abbrev pub is_line_byte : ℕ → Bool
 is_line_byte = is_between 32 126
 
--- where a byte of a line stands: between words, in a bare word or in a quoted text of which these
--- bytes have come, or right behind a quoted text
+-- where a byte of a line is: between words, in a bare word or in a quoted text of which these
+-- bytes have been read, or right after a quoted text
 pub data LinePart : Type 0 where
   between : LinePart
   in_bare : List ℕ → LinePart
@@ -46,7 +46,7 @@ abbrev pub with_word : Word → Result (List Word) ScriptKind → Result (List W
 with_word word (Ok words) = Ok (word ∷ words)
 with_word word (Err kind) = Err kind
 
--- the words that begin or end in these bytes, of which the first stands at this place: blanks part
+-- the words that begin or end in these bytes, of which the first is at this place: blanks part
 -- them, a quote opens and closes a quoted text, which a blank or the end follows, and stands
 -- nowhere else
 unfoldable pub words_at : LinePart → List ℕ → Result (List Word) ScriptKind

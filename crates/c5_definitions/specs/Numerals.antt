@@ -19,7 +19,7 @@ unfoldable pub magnitude_of : List ℕ → Option ℕ
 magnitude_of digits = if is_between 1 19 (length digits) && list_all is_digit digits
     then Some (digits_after 0 digits) else None
 
--- a number below 2^63, and one behind a minus up to 2^63
+-- a number below 2^63, and one after a minus up to 2^63
 abbrev pub as_positive : ℕ → Option ℤ
 as_positive n = if nat_lt n (2 ^ 63) then Some (pos n) else None
 

@@ -125,7 +125,7 @@ turn_in (bare (first ∷ rest)) =
     else (if bytes_eq (first ∷ rest) (codes "v") then Ok turns.Visible
     else Err kinds.Number))
 
--- ---- words that stand one behind the other, tested from left to right
+-- ---- words one after the other, tested from left to right
 
 -- words that all pass the same test
 unfoldable pub each_in : {A : Type 0} → (Word → Result A ScriptKind) → List Word

@@ -50,7 +50,7 @@ front_from number s (line ∷ lines) = after_front_numbered number s line >>= λ
   | log_follows ↦ Ok (parts_of s, number)
 ]
 
--- the script at the front of bytes and the bytes behind the line that ends it, or their first fault
+-- the script that bytes begin with, and the bytes after the line that ends it, or their first fault
 unfoldable pub front_of : List ℕ → Result (ScriptParts × List ℕ) ScriptFault
 front_of bytes = front_from 1 script_start (lines_of bytes)
     >>= λ front. Ok (front.0, behind_lines front.1 bytes)

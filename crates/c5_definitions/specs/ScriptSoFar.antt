@@ -30,7 +30,7 @@ is_outside outside = true
 is_outside (in_txn statements) = false
 is_outside (in_read session lines) = false
 
--- a table stands
+-- there is a table
 abbrev pub has_table : ScriptSoFar → Bool
 has_table s = not (length s.tables == 0)
 
@@ -38,7 +38,7 @@ has_table s = not (length s.tables == 0)
 abbrev pub is_heading : ScriptSoFar → Bool
 is_heading s = length s.bodies == 0 && (length s.reads == 0) && (length s.turns == 0)
 
--- a script may end here: no block is open, and a table stands
+-- a script may end here: no block is open, and there is a table
 unfoldable pub is_closed : ScriptSoFar → Bool
 is_closed s = is_outside s.block && has_table s
 

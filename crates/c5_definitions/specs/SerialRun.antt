@@ -8,7 +8,7 @@ use Rattle.c5_definitions.specs.declared.script.Statement.{Statement}
 use Rattle.c5_definitions.specs.Eval.{eval}
 use Rattle.c5_definitions.specs.Lawful.{StampsRise}
 
--- the body of this number; one without statements where there is none
+-- the body of this number; one without statements if there is none
 abbrev pub body_at : List (List Statement) → ℕ → List Statement
 body_at bodies number = slice_index_or bodies number []
 

@@ -1,7 +1,7 @@
 -- The lines of a script: where each is known, how many words it has, and what it adds.
 --
 -- A line is known by its first word. Then the limits are tested, then the number of its words, and
--- then its words from left to right. The definitions here have the words behind the first one.
+-- then its words from left to right. The definitions here have the words after the first one.
 use Rattle.std.specs.Prelude.{ℕ, ◌+◌, ◌&&◌, ◌||◌, Bool, false, nat_lt, nat_le, codes, List, [], ◌∷◌}
 use Rattle.std.specs.Prelude.{◌++◌, length, Result, Ok, Err, if◌then◌else◌}
 use Rattle.std.specs.Str.{bytes_eq}
@@ -70,7 +70,7 @@ unfoldable pub turns_line : ℕ → List Word → Result (List TurnWord) ScriptK
 turns_line count words = if nat_lt max_turn_words (count + length words) then Err kinds.Limit
     else turns_words words
 
--- a line that is known once a table stands
+-- a line that is known once there is a table
 unfoldable pub standing_line : ScriptSoFar → List ℕ → List Word → Result ScriptSoFar ScriptKind
 standing_line s first words =
     if bytes_eq first (codes "txn")
@@ -230,19 +230,19 @@ after_line s (bare first ∷ words) = known_line s first words
 
 -- ---- a line of a script that a log follows
 
--- the script goes on, or the log begins behind the line
+-- the script goes on, or the log begins after the line
 pub data FrontLine : Type 0 where
   goes_on : ScriptSoFar → FrontLine
   log_follows : FrontLine
 
--- the first word is `log`, outside blocks and where a table stands
+-- the first word is `log`, outside blocks, once there is a table
 abbrev pub is_log_line : ScriptSoFar → List Word → Bool
 is_log_line s [] = false
 is_log_line s (quoted text ∷ words) = false
 is_log_line s (bare first ∷ words) = bytes_eq first (codes "log") && is_outside s.block
     && has_table s
 
--- `log` stands alone
+-- `log` is alone
 unfoldable pub log_line : List Word → Result FrontLine ScriptKind
 log_line (first ∷ []) = Ok log_follows
 log_line _ = Err kinds.Count

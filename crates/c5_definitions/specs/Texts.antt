@@ -16,7 +16,7 @@ abbrev pub cell_text : Cell → List ℕ
 cell_text (Int n) = signed_decimal n
 cell_text (Txt bytes) = 34 ∷ bytes ++ 34 ∷ []
 
--- the name of a table; no bytes where there is no such table
+-- the name of a table; no bytes if there is no such table
 abbrev pub table_name_text : Option TableDef → List ℕ
 table_name_text (Some table) = table.name
 table_name_text None = []

@@ -51,7 +51,7 @@ header_faults =
 -- bytes of which a frame is faulty by itself
 abbrev pub frame_faults : List Faulty
 frame_faults =
-    -- a length past 300, of which no payload has come
+    -- a length past 300, without its payload
     record { bytes = header ++ 0xFF ∷ 0xFF ∷ 0xFF ∷ 0xFF ∷ []; offset = 12; kind = Length } ∷
     -- a length of 301
     record { bytes = header ++ 0 ∷ 0 ∷ 1 ∷ 0x2D ∷ []; offset = 12; kind = Length } ∷

@@ -23,10 +23,10 @@ pub enum LogKind {
     Stamp,
     /// A commit mark has the number of writes since the last one.
     Count,
-    /// No write stands between the last commit mark and the end mark, which has the number of
+    /// No write is between the last commit mark and the end mark, which has the number of
     /// commit marks.
     End,
-    /// The end mark has come whole.
+    /// The end mark is complete.
     Cut,
     /// Nothing follows the end mark.
     After,

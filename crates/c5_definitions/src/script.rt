@@ -26,7 +26,7 @@ pub enum Statement {
         name: RowName,
         row: Row,
     },
-    /// Removes the row; where there is none it stays absent.
+    /// Removes the row; if there is none, it stays absent.
     Del {
         name: RowName,
     },
@@ -37,7 +37,8 @@ pub enum Statement {
         rel: Rel,
         n: i64,
     },
-    /// Adds `n` to a cell. Declines the transaction where the row is absent or the sum is no i64.
+    /// Adds `n` to a cell. Declines the transaction where the row is absent or the sum isn't an
+    /// i64.
     Add {
         name: RowName,
         col: u8,
@@ -76,7 +77,7 @@ pub enum TurnWord {
 pub enum ScriptKind {
     /// Each byte of a line is `20` to `7E`.
     Byte,
-    /// A quoted text is closed and a space or the line's end follows it; no quote stands in a bare
+    /// A quoted text is closed and a space or the line's end follows it; no quote is in a bare
     /// word.
     Quote,
     /// The first word is known at its place; a relation is known.
@@ -97,7 +98,7 @@ pub enum ScriptKind {
     WrongType,
     /// A number is written as one, and within its range.
     Number,
-    /// Every block is closed, and a table stands.
+    /// Every block is closed, and there is a table.
     Unclosed,
 }
 

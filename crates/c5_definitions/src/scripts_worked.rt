@@ -14,7 +14,7 @@ ghost use Rattle.c5_definitions.specs.WorkedScripts.{quoted_text, quoted_parts, 
 ghost use Rattle.c5_definitions.specs.WorkedScripts.{all_parts, bad_number_text, bad_type_text};
 ghost use Rattle.c5_definitions.specs.WorkedScripts.{open_text, tab_text, quote_text, front_text};
 
-/// Lines that are written one behind the other are the lines of the bytes, also where the last has
+/// Lines that are written one after the other are the lines of the bytes, also where the last has
 /// no line end.
 pub fn lines_read_back()
     ensures ended { (lines : List (List ℕ)) → AllByRecursion IsLine lines
@@ -49,7 +49,7 @@ pub fn worked_script_faults()
     ensures no_bytes { script_of [] ≡ Err (record { line = 1; kind = kinds.Unclosed }) }
 {}
 
-/// What stands in front of a log, and what follows it.
+/// What comes before a log, and what follows it.
 pub fn worked_fronts()
     ensures log { front_of (front_text ++ worked_bytes) ≡ Ok (table_parts, worked_bytes) }
     ensures no_log { front_of table_text ≡ Err (record { line = 2; kind = kinds.Unclosed }) }

@@ -39,7 +39,7 @@ decoded_state p =
       found = found_in p.index;
     }
 
--- what has been read, with these transactions, and these writes behind them
+-- what has been read, with these transactions, and these writes after them
 abbrev pub so_far_of : DecodedState → List Txn → List Write → LogSoFar
 so_far_of s txns writes =
     record { tables = s.tables; txns = txns; writes = writes; stamp = s.found.stamp; next = s.next }
@@ -68,7 +68,7 @@ IsDue (frame_payload size) tables = (1 ≤ length tables) × (min_payload_bytes 
     × (size ≤ max_payload_bytes)
 IsDue nothing_more tables = 1 ≤ length tables
 
--- what has been found before an item: nothing before the first frame; behind the end mark no write
+-- what has been found before an item: nothing before the first frame; after the end mark no write
 -- is open
 unfoldable pub IsFoundBefore : Item → Found → Type 0
 IsFoundBefore frame_length f = Unit {0}
@@ -88,7 +88,7 @@ pub record Tracks (bytes : List ℕ) (s : DecodedState) : Type 0 where
   pub few_places : 5 * length s.found.places ≤ s.at
   pub few_txns : 5 * length s.found.txns ≤ s.at
 
--- this state has been come to, and there is room for what the bytes behind it can bring
+-- this state has been reached, and there is room for what the bytes after it can bring
 pub record IsReady (bytes : List ℕ) (p : DecoderState) : Type 0 where
   pub tracks : Tracks bytes (decoded_state p)
   pub room : HasRoom (length bytes - p.at) p.index
@@ -103,19 +103,19 @@ Faults bytes s kind = after_bytes at_start bytes
 abbrev pub HasWhole : List ℕ → DecodedState → Type 0
 HasWhole bytes s = s.at + size_of s.next ≤ length bytes
 
--- what an item that is no payload leaves of the tables, and the item behind it
+-- what an item that isn't a payload leaves of the tables, and the item after it
 abbrev pub tables_after : Item → List TableDef → List ℕ → Result (List TableDef × Item) LogKind
 tables_after item tables bytes =
     after_item item
     (record { tables = tables; txns = []; writes = []; stamp = 0; next = item }) bytes
     >>= λ s. Ok (s.tables, s.next)
 
--- the item is no payload
+-- the item isn't a payload
 abbrev pub IsPlain : Item → Type 0
 IsPlain (frame_payload size) = ⊥
 IsPlain item = Unit {0}
 
--- what the bytes that were fed have come to: a fault, or a state with less than an item behind it
+-- what the bytes that were fed lead to: a fault, or a state with less than an item after it
 abbrev pub ComesTo : List ℕ → DecoderState → Option LogFault → Type 0
 ComesTo bytes p None = Tracks bytes (decoded_state p)
     × (length bytes < p.at + size_of (item_of p.stage))

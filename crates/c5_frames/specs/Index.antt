@@ -88,7 +88,7 @@ LieAt bytes tables (place ∷ places) [] = ⊥
 LieAt bytes tables (place ∷ places) (w ∷ writes) = LiesAt bytes tables place w
     × LieAt bytes tables places writes
 
--- the index of these transactions, and of the writes behind them
+-- the index of these transactions, and of the writes after them
 pub record IsIndex (bytes : List ℕ) (tables : List TableDef) (f : Found) (txns : List Txn)
     (writes : List Write) : Type 0 where
   pub entries : f.txns ≡ txn_refs_from 1 txns

@@ -41,7 +41,7 @@ FaultsStay = (prefix rest : List ℕ) (fault : LogFault) → log_fault_of prefix
     → fault.kind ≢ kinds.Cut
     → log_fault_of (prefix ++ rest) ≡ Some fault
 
--- reading that has come to a fault reports it whatever follows, before the end and at it
+-- reading that has met a fault reports it whatever follows, before the end and at it
 abbrev pub FaultsAreFinal : Type 0
 FaultsAreFinal = (prefix rest : List ℕ) (fault : LogFault) → after_bytes at_start prefix ≡ Err fault
     → (after_bytes at_start (prefix ++ rest) ≡ Err fault) × (log_of (prefix ++ rest) ≡ Err fault)

@@ -11,16 +11,16 @@ use Rattle.c5_frames.specs.declared.payload.Checked.TheVariants as checked
 use Rattle.c5_frames.specs.declared.payload.Mark.{Mark}
 use Rattle.c5_frames.specs.declared.payload.NameRef.{NameRef}
 
--- a test fails exactly where reading does, with its kind
+-- a test fails if and only if reading does, with its kind
 abbrev pub Passes : {X Y : Type 0} → Result X LogKind → Result Y LogKind → Type 0
 Passes {X} {Y} (Ok x) read = (y : Y) × (read ≡ Ok y)
 Passes (Err kind) read = read ≡ Err kind
 
--- the bytes behind what was read
+-- the bytes after what was read
 abbrev pub unread : {X : Type 0} → Result (X × List ℕ) LogKind → Result (List ℕ) LogKind
 unread read = read >>= λ x. Ok x.1
 
--- the name of the write that stands behind the byte `W`
+-- the name of the write that follows the byte `W`
 abbrev pub name_at : List TableDef → List ℕ → Result RowName LogKind
 name_at tables bytes = write_at tables bytes >>= λ w. Ok w.name
 

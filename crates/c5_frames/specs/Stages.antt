@@ -18,7 +18,7 @@ item_of stages.FrameLength = frame_length
 item_of (stages.Payload size) = frame_payload size
 item_of stages.NothingMore = nothing_more
 
--- the end mark has come
+-- the end mark has been read
 abbrev pub is_end : Item → Bool
 is_end nothing_more = true
 is_end item = false

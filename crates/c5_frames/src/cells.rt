@@ -12,7 +12,7 @@ ghost use Rattle.c5_frames.specs.Refs.{Reads, HoldRow, cells_held, text_bytes_of
 use crate::numbers::i64_in;
 use c5_rows::{Cell, CellType, Row, TextCell};
 
-// The number, and the bytes behind it.
+// The number, and the bytes after it.
 #[tactic(auto, unfolding(c5_definitions::specs::Frames::int_at))]
 fn first_int(bytes: &[u8]) -> (i64, &[u8])
     requires { Reads (int_at bytes.now) }
@@ -21,7 +21,7 @@ fn first_int(bytes: &[u8]) -> (i64, &[u8])
     (i64_in(bytes), &bytes[8..])
 }
 
-// The text, and the bytes behind it.
+// The text, and the bytes after it.
 fn first_text(bytes: &[u8]) -> (&[u8], &[u8])
     requires { Reads (text_at bytes.now) }
     ensures { text_at bytes.now ≡ Ok (Cell.Txt result.0.now, result.1.now) }
@@ -32,7 +32,7 @@ fn first_text(bytes: &[u8]) -> (&[u8], &[u8])
     }
 }
 
-// The cell, and the bytes behind it.
+// The cell, and the bytes after it.
 #[tactic(auto, unfolding(c5_definitions::specs::Frames::cell_at))]
 fn first_cell(cell_type: CellType, bytes: &[u8]) -> (Cell, &[u8])
     requires { Reads (cell_at cell_type bytes.now) }
@@ -53,7 +53,7 @@ fn first_cell(cell_type: CellType, bytes: &[u8]) -> (Cell, &[u8])
     }
 }
 
-// The bytes behind the cell.
+// The bytes after the cell.
 #[tactic(auto, unfolding(c5_definitions::specs::Frames::cell_at))]
 fn behind_cell(cell_type: CellType, bytes: &[u8]) -> &[u8]
     requires { Reads (cell_at cell_type bytes.now) }
@@ -89,7 +89,7 @@ pub fn cell_in(columns: &[CellType], bytes: &[u8], col: usize) -> Cell
     first_cell(columns[col], rest).0
 }
 
-/// The text of this column, `None` exactly where its type is another.
+/// The text of this column, `None` if and only if its type is another.
 pub fn text_in<'a>(columns: &[CellType], bytes: &'a [u8], col: usize) -> Option<&'a [u8]>
     requires row { HoldRow columns.now bytes.now }
     requires column { col < length columns.now }
@@ -104,7 +104,7 @@ pub fn text_in<'a>(columns: &[CellType], bytes: &'a [u8], col: usize) -> Option<
 }
 
 /// The row of all the cells.
-// Inlined, its large locals would cost each caller their size, also where there is no row.
+// Inlined, its large locals would cost each caller their size, even when there is no row.
 #[inline(never)]
 pub fn row_in(columns: &[CellType], bytes: &[u8]) -> Row
     requires row { HoldRow columns.now bytes.now }

@@ -53,7 +53,7 @@ fn take_piece(
     Ok(())
 }
 
-// Takes a piece where no fault has come.
+// Takes a piece when no fault has been found.
 fn feed_whole(
     bytes: &mut Vec<u8>,
     progress: &mut DecoderState,
@@ -79,7 +79,7 @@ fn feed_whole(
     }
 }
 
-// Takes a piece behind a fault.
+// Takes a piece after a fault.
 fn feed_faulty(bytes: &mut Vec<u8>, found: LogFault, piece: &[u8]) -> Result<(), FeedFault>
     requires fault { after_bytes at_start bytes.old.items ≡ Err found }
     ensures feeds { Feeds bytes.old.items piece.now bytes.new.items result }

@@ -212,7 +212,7 @@ fn stage_behind_table(missing: u8) -> Stage
     }
 }
 
-/// The number of bytes of the payload behind a length.
+/// The number of bytes of the payload that follows a length.
 #[tactic(auto, unfolding(c5_definitions::specs::Items::after_item))]
 pub fn after_frame_length(item: &[u8]) -> Result<u32, LogKind>
     requires { 4 ≤ length item.now }
@@ -227,7 +227,7 @@ pub fn after_frame_length(item: &[u8]) -> Result<u32, LogKind>
     Ok(size)
 }
 
-/// The item behind one that is no payload. A table that has come whole is added.
+/// The item after one that isn't a payload. A table that is complete is added.
 pub fn after_plain(schema: &mut Option<Schema>, stage: Stage, item: &[u8]) -> Result<Stage, LogKind>
     requires plain { IsPlain (item_of stage) }
     requires due { IsDue (item_of stage) (tables_of schema.old) }

@@ -53,7 +53,7 @@ fn is_text(bytes: &[u8]) -> bool
     bytes.len() <= MAX_TEXT_BYTES && are_text_bytes(bytes)
 }
 
-// The key, and the bytes behind it.
+// The key, and the bytes after it.
 #[tactic(auto, unfolding(c5_definitions::specs::Frames::key_at))]
 fn skip_key(bytes: &[u8]) -> Result<(&[u8], &[u8]), LogKind>
     ensures { Gives (λ x. (x.0.now, x.1.now)) result (key_at bytes.now) }
@@ -147,7 +147,7 @@ fn check_change(columns: &[CellType], bytes: &[u8]) -> Result<(), LogKind>
     }
 }
 
-// What stands behind the byte `W`.
+// What follows the byte `W`.
 #[tactic(auto, unfolding(c5_definitions::specs::Frames::write_at, c5_definitions::specs::Frames::table_numbered))]
 fn check_write<'a>(tables: &[TableDef], bytes: &'a [u8]) -> Result<NameRef<'a>, LogKind>
     ensures { Gives name_of result (name_at tables.now bytes.now) }
@@ -171,7 +171,7 @@ fn check_write<'a>(tables: &[TableDef], bytes: &'a [u8]) -> Result<NameRef<'a>, 
     }
 }
 
-// What stands behind the byte `C`.
+// What follows the byte `C`.
 #[tactic(auto, unfolding(c5_definitions::specs::Frames::mark_at))]
 fn mark_in(bytes: &[u8]) -> Result<Mark, LogKind>
     ensures { Gives numbers_of result (mark_at bytes.now) }
@@ -186,7 +186,7 @@ fn mark_in(bytes: &[u8]) -> Result<Mark, LogKind>
     })
 }
 
-// What stands behind the byte `E`.
+// What follows the byte `E`.
 #[tactic(auto, unfolding(c5_definitions::specs::Frames::end_at))]
 fn end_in(bytes: &[u8]) -> Result<u32, LogKind>
     ensures { result ≡ end_at bytes.now }

@@ -51,7 +51,7 @@ impl<'a> RowRef<'a> {
         cell_in(self.columns.types(), self.bytes, col as usize)
     }
 
-    /// The bytes of the text in column `col`; `None` exactly where the column holds numbers.
+    /// The bytes of the text in column `col`; `None` if and only if the column holds numbers.
     pub fn text(&self, col: u8) -> Option<&'a [u8]>
         requires { col < length self.now }
         ensures { option_map (λ text. text.now) result
@@ -138,7 +138,7 @@ impl<'a> WriteRef<'a> {
         }
     }
 
-    /// The row of a put; `None` exactly where the row becomes absent.
+    /// The row of a put; `None` if and only if the row becomes absent.
     pub fn row(&self) -> Option<RowRef<'a>>
         ensures { result ≡ row_of_change self.now.change }
     {

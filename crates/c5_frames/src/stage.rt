@@ -50,7 +50,7 @@ pub fn size_of_item(stage: &Stage) -> u32
     }
 }
 
-/// Where an item begins whose bytes stand here: a frame begins with its length.
+/// Where an item begins of these bytes: a frame begins with its length.
 pub fn begin_of_item(stage: &Stage, at: u32) -> u32
     ensures { result ≡ begin_of (item_of stage.now) at }
 {
@@ -60,7 +60,7 @@ pub fn begin_of_item(stage: &Stage, at: u32) -> u32
     }
 }
 
-/// Whether the end mark has come.
+/// Whether the end mark has been read.
 pub fn is_end(stage: &Stage) -> bool
     ensures { result ≡ is_end (item_of stage.now) }
 {

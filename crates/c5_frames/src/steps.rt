@@ -81,7 +81,7 @@ fn step(bytes: &[u8], p: &mut DecoderState) -> Result<(), LogFault>
     }
 }
 
-/// Takes the items that have come whole.
+/// Takes the items that are complete.
 pub fn take_items(bytes: &[u8], p: &mut DecoderState) -> Result<(), LogFault>
     requires { IsReady bytes.now p.old }
     ensures ready { OnOk result (IsReady bytes.now p.new) }

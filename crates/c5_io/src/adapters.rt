@@ -1,4 +1,4 @@
-// The trusted edge: what std's readers and writers tell of their bytes is passed on.
+// The trusted edge: what std's readers and writers report of their bytes is passed on.
 ghost use Rattle.std.specs.Prelude.{◌≡◌, false};
 ghost use Rattle.c5_io.specs.Adapters.{reader_of, source_faults, writer_of, sink_faults};
 ghost use Rattle.c5_io.specs.Adapters.{is_flushed};

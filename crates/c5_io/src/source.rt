@@ -18,7 +18,7 @@ pub trait Source {
     fn read(&mut self, into: &mut [u8]) -> Result<usize, Failed>
         ensures bound { ReadsAtMost result into.new }
 
-        // Ok: these bytes were the next ones, and 0 comes only where none is left. Failed: none is
+        // Ok: these bytes were the next ones, and 0 comes only if none is left. Failed: none is
         // taken.
         ensures bytes { ReadConsumes (left self.old) (left self.new) result into.new }
         ensures cause { HasCause (faults self.old) (faults self.new) result };

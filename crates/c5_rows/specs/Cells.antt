@@ -19,7 +19,7 @@ abbrev pub row_or_none : {X : Type 0} → List X → Option (List X)
 row_or_none items = if nat_le 1 (length items) && nat_le (length items) max_columns then Some items
     else None
 
--- ---- how proofs tell cells apart
+-- ---- how proofs distinguish cells
 
 abbrev pub cell_parts : Cell → ℤ ⊎ List ℕ
 cell_parts (Int n) = inl n

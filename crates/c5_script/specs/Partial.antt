@@ -19,7 +19,7 @@ block_of (Txn body) = in_txn body
 block_of (Opened session) = in_read session []
 block_of (Read read) = in_read read.session read.lines
 
--- the script is there once a table stands
+-- the script is there once there is a table
 abbrev pub script_so_far : Option ScriptParts → OpenBlock → ScriptSoFar
 script_so_far None block =
     record { tables = []; bodies = []; reads = []; turns = []; block = block_of block }

@@ -9,7 +9,7 @@ abbrev pub with_words : List Word → Result (List Word) ScriptKind → Result (
 with_words front (Ok words) = Ok (front ++ words)
 with_words front (Err kind) = Err kind
 
--- these are the word that was found and the words of the bytes behind it; or they have the fault
+-- these are the word that was found and the words of the bytes after it; or they have the fault
 abbrev pub FindsWord : {X : Type 0} → (X → Word) → (X → List ℕ) → Result (List Word) ScriptKind
     → Result X ScriptKind → Type 0
 FindsWord word behind words (Ok x) = words ≡ with_word (word x) (words_at between (behind x))

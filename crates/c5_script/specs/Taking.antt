@@ -4,7 +4,7 @@ use Rattle.c5_definitions.specs.declared.script.ScriptKind.{ScriptKind}
 use Rattle.c5_script.specs.declared.fault.LineError.{LineError}
 use Rattle.c5_script.specs.declared.fault.LineError.TheVariants as errors
 
--- the kind that stopped the step is the one that reading gives; of want of memory nothing is said
+-- the kind that stopped the step is the one that reading gives; nothing is said of out of memory
 abbrev pub Fails : {Y : Type 0} → LineError → Result Y ScriptKind → Type 0
 Fails errors.NoMemory read = Unit {0}
 Fails (errors.Fault kind) read = read ≡ Err kind

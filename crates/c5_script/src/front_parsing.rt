@@ -19,7 +19,7 @@ use std::alloc::Global;
 #[derive(Debug, Drop)]
 pub struct Front<'a> {
     pub script: Script,
-    /// The bytes behind the `log` line.
+    /// The bytes after the `log` line.
     pub rest: &'a [u8],
 }
 
@@ -44,8 +44,8 @@ fn take_front_line<'a>(
 }
 
 /// Reads the script up to the first line that is accepted as a `log` line, and gives the bytes
-/// behind that.
-/// `Bad` has the first fault of the bytes, which comes exactly where they have one.
+/// after that.
+/// `Bad` has the first fault of the bytes, which comes if and only if they have one.
 pub fn parse_front(alloc: Global, bytes: &[u8]) -> Result<Front<'_>, ParseFault>
     requires { length bytes.now ≤ max_log_bytes }
     ensures { ParsesTo (λ front. (front.script, front.rest.now)) result (front_of bytes.now) }

@@ -92,7 +92,7 @@ fn read_of(words: &[Word]) -> Result<u32, ScriptKind>
     }
 }
 
-/// The session of a read block that a line opens behind `count` others.
+/// The session of a read block that a line opens after `count` others.
 #[tactic(auto, unfolding(c5_definitions::specs::Statements::read_line))]
 pub(crate) fn new_read(count: usize, words: &[Word]) -> Result<u32, ScriptKind>
     ensures read { Gives (λ session. in_read session []) result
@@ -153,7 +153,7 @@ fn statements_before(script: &Script) -> usize
     }
 }
 
-/// Takes a line outside blocks, where a table stands.
+/// Takes a line outside blocks, once there is a table.
 #[tactic(auto, unfolding(c5_definitions::specs::Statements::standing_line))]
 pub(crate) fn add_standing(
     alloc: Global,

@@ -20,7 +20,7 @@ fn words(alloc: Global, line: &str) -> Result<Vec<Word<'_>>, AllocError> {
     Ok(words)
 }
 
-// Takes lines that stand between slashes, up to the first fault.
+// Takes lines that slashes separate, up to the first fault.
 fn take(alloc: Global, script: &mut PartialScript, lines: &str) -> Result<(), LineError> {
     for line in lines.split('/') {
         let Ok(words) = words(alloc, line) else {
@@ -164,7 +164,7 @@ fn lines_of_a_read_block(rt: HostRuntime) -> Result<(), Fail> {
     Ok(())
 }
 
-// The fault of the last of the lines, where `count` times these stand before it.
+// The fault of the last of the lines, after these lines `count` times.
 fn fault_behind(alloc: Global, count: u32, lines: &str, last: &str) -> Option<ScriptKind> {
     let mut script = PartialScript::new(alloc);
     let mut taken = take(alloc, &mut script, TABLES);

@@ -1,4 +1,4 @@
-//! Words that stand one behind the other, tested from left to right.
+//! Words one after the other, tested from left to right.
 
 ghost use Rattle.std.specs.Prelude.{◌≡◌, ◌≤◌, ◌<◌, ◌∷◌, length};
 ghost use Rattle.c5_rows.specs.Sizes.{max_columns, max_sum_keys};

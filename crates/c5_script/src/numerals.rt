@@ -48,7 +48,7 @@ fn negative(n: u64) -> Option<i64>
     0_i64.checked_sub_unsigned(n)
 }
 
-/// The number that an optional minus and 1 to 19 digits write. `None` exactly where `bytes` are
+/// The number that an optional minus and 1 to 19 digits write. `None` if and only if `bytes` are
 /// nothing of the kind, or the number has more than 64 bits with its sign.
 #[tactic(auto, unfolding(c5_definitions::specs::Numerals::int_of_digits))]
 pub(crate) fn number_of(bytes: &[u8]) -> Option<i64>

@@ -58,7 +58,8 @@ fn take_line<'a>(
     }
 }
 
-/// Reads a script. `Bad` has the first fault of the bytes, which comes exactly where they have one.
+/// Reads a script. `Bad` has the first fault of the bytes, which comes if and only if they have
+/// one.
 pub fn parse(alloc: Global, bytes: &[u8]) -> Result<Script, ParseFault>
     requires { length bytes.now ≤ max_log_bytes }
     ensures { ParsesTo (λ script. script) result (script_of bytes.now) }

@@ -19,7 +19,7 @@ fn joined(alloc: Global, parts: &[&[u8]]) -> Result<Vec<u8>, AllocError> {
     Ok(bytes)
 }
 
-// A front, a line that stands there some times, and what follows.
+// A prefix, a line that is repeated, and what follows.
 fn repeated(
     alloc: Global,
     front: &[u8],
@@ -35,7 +35,7 @@ fn repeated(
     Ok(bytes)
 }
 
-// The fault that is told: its line and its kind.
+// The fault that is reported: its line and its kind.
 fn fault_in(alloc: Global, bytes: &[u8]) -> Option<(u32, ScriptKind)> {
     if bytes.len() > 1_000_000 {
         return None;

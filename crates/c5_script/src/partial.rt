@@ -44,7 +44,7 @@ impl Model for PartialScript {
 /// Whether a line ended the script.
 #[derive(Clone, Copy, Debug, PartialEq, Eq)]
 pub(crate) enum Taken {
-    /// The script goes on behind the line.
+    /// The script goes on after the line.
     More,
     /// The line was the `log` line.
     Log,
@@ -123,7 +123,7 @@ impl PartialScript {
         }
     }
 
-    /// Takes a line of these words. `Fault` exactly where the line fails a test, with the kind of
+    /// Takes a line of these words. `Fault` if and only if the line fails a test, with the kind of
     /// the first. What has been read after an `Err` isn't said.
     #[tactic(auto, unfolding(c5_definitions::specs::Statements::after_line))]
     pub(crate) fn take_line(&mut self, words: &[Word]) -> Result<(), LineError>
@@ -149,7 +149,7 @@ impl PartialScript {
         }
     }
 
-    /// Takes a line of these words, which may be the `log` line. `Fault` exactly where the line
+    /// Takes a line of these words, which may be the `log` line. `Fault` if and only if the line
     /// fails a test, with the kind of the first. What has been read after an `Err` isn't said.
     #[tactic(auto, unfolding(c5_definitions::specs::Statements::after_front_line, c5_definitions::specs::Statements::log_line))]
     pub(crate) fn take_front_line(&mut self, words: &[Word]) -> Result<Taken, LineError>
@@ -167,7 +167,7 @@ impl PartialScript {
         Ok(Taken::More)
     }
 
-    /// The script; `None` exactly where a block is open or no table stands.
+    /// The script; `None` if and only if a block is open or there is no table.
     #[tactic(auto, unfolding(c5_definitions::specs::ScriptSoFar::is_closed))]
     pub(crate) fn finish(self) -> Option<Script>
         ensures { result ≡ (if is_closed self then Some (parts_of self) else None) }

@@ -149,7 +149,7 @@ pub(crate) fn cell(column: CellType, word: Word) -> Result<Cell, ScriptKind>
     }
 }
 
-/// The columns of the table of this number; none where there is no such table.
+/// The columns of the table of this number; none if there is no such table.
 pub(crate) fn columns(tables: &[TableDef], number: u8) -> &[CellType]
     ensures value { result.now ≡ columns_of tables.now number }
     ensures few { length result.now ≤ max_columns }

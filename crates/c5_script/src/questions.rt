@@ -59,7 +59,7 @@ fn sum(tables: &[TableDef], words: &[Word]) -> Result<ReadLine, ScriptKind>
     }
 }
 
-/// The line of a read block that stands behind `count` others.
+/// The line of a read block that follows `count` others.
 #[tactic(auto, unfolding(c5_definitions::specs::Statements::question_line))]
 pub(crate) fn question(
     tables: &[TableDef],

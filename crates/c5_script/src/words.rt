@@ -20,7 +20,7 @@ fn is_line_byte(byte: u8) -> bool
     byte >= b' ' && byte <= b'~'
 }
 
-// Each byte of the line is a blank or a printable byte. Each is tested, also behind one that is not
+// Each byte of the line is a blank or a printable byte. Each is tested, also after one that is not
 // allowed: so there is no branch in the loop.
 fn has_line_bytes(line: &[u8]) -> bool
     ensures { result ≡ list_all is_line_byte line.now }
@@ -44,7 +44,7 @@ fn quote(bytes: &[u8]) -> Option<usize>
     bytes.iter().position(|byte| *byte == b'"')
 }
 
-// The bare word that begins with the first byte, and the bytes behind it.
+// The bare word that begins with the first byte, and the bytes after it.
 fn bare_in(bytes: &[u8]) -> Result<(&[u8], &[u8]), ScriptKind>
     requires { 1 ≤ length bytes.now }
     ensures words { FindsWord (λ x. bare x.0.now) (λ x. x.1.now)
@@ -73,7 +73,7 @@ fn is_word_end(bytes: &[u8]) -> bool
     }
 }
 
-// The text up to the closing quote, and the bytes behind that.
+// The text up to the closing quote, and the bytes after that.
 fn text_in(bytes: &[u8]) -> Result<(&[u8], &[u8]), ScriptKind>
     ensures words { FindsWord (λ x. quoted x.0.now) (λ x. x.1.now)
         (words_at (in_quoted []) bytes.now) result }
@@ -91,7 +91,7 @@ fn text_in(bytes: &[u8]) -> Result<(&[u8], &[u8]), ScriptKind>
     }
 }
 
-// The word that begins with the first byte, and the bytes behind it.
+// The word that begins with the first byte, and the bytes after it.
 fn word_in(bytes: &[u8]) -> Result<(Word<'_>, &[u8]), ScriptKind>
     requires some { 1 ≤ length bytes.now }
     requires no_blank { slice_index bytes.now 0 ≢ 32 }

@@ -32,12 +32,12 @@ abbrev pub GivesOption : {X Y : Type 0} → (X → Y) → Option X → Option Y 
 GivesOption view (Some x) read = read ≡ Some (view x)
 GivesOption view None read = read ≡ None
 
--- how many bytes stand before the first byte `stop`, and all of them where there is none
+-- how many bytes come before the first byte `stop`, and all of them if there is none
 unfoldable pub bytes_before : ℕ → List ℕ → ℕ
 bytes_before stop [] = 0
 bytes_before stop (byte ∷ bytes) = if byte == stop then 0 else suc (bytes_before stop bytes)
 
--- the bytes behind this one
+-- the bytes after this one
 unfoldable pub rest_after_byte : ℕ → List ℕ → Option (List ℕ)
 rest_after_byte first [] = None
 rest_after_byte first (byte ∷ bytes) = if byte == first then Some bytes else None
@@ -81,7 +81,7 @@ printed_row_at columns bytes = do
   cells ← printed_cells_at columns bytes
   if length cells.1 == 0 then Some cells.0 else None
 
--- what stands behind the name of the table of this number: a blank, the key and the cells
+-- what follows the name of the table of this number: a blank, the key and the cells
 unfoldable pub printed_entry_at : List TableDef → ℕ → List ℕ → Option RowEntry
 printed_entry_at tables number rest = do
   table ← slice_get tables number

@@ -16,7 +16,7 @@ use c5_rows::{
 };
 use itoa::Buffer;
 
-// How many bytes stand before the first byte `stop`; all of them where there is none.
+// How many bytes come before the first byte `stop`; all of them if there is none.
 #[tactic(auto, unfolding(crate::specs::Reading::bytes_before))]
 pub(crate) fn count_before(stop: u8, bytes: &[u8]) -> usize
     ensures value { result ≡ bytes_before stop bytes.now }
@@ -30,7 +30,7 @@ pub(crate) fn count_before(stop: u8, bytes: &[u8]) -> usize
     bytes.len()
 }
 
-// The bytes behind the byte `first`.
+// The bytes after the byte `first`.
 #[tactic(auto, unfolding(crate::specs::Reading::rest_after_byte))]
 pub(crate) fn behind(first: u8, bytes: &[u8]) -> Option<&[u8]>
     ensures { GivesOption (λ x. x.now) result (rest_after_byte first bytes.now) }
@@ -122,7 +122,7 @@ fn row_in(columns: &[CellType], bytes: &[u8]) -> Option<Row>
     Row::new(&cells[..columns.len()])
 }
 
-// The row of which this stands behind the table's name.
+// The row of which this follows the table's name.
 #[tactic(auto, unfolding(crate::specs::Reading::printed_entry_at))]
 fn entry_in(tables: &[TableDef], number: u8, rest: &[u8]) -> Option<RowEntry>
     ensures { result ≡ printed_entry_at tables.now number rest.now }
@@ -166,8 +166,8 @@ fn read_names(tables: &[TableDef])
     }
 }
 
-/// Reads a row's line, without its line end. `None` exactly where the line is the text of no row of
-/// the schema.
+/// Reads a row's line, without its line end. `None` if and only if the line is the text of no row
+/// of the schema.
 pub fn read_row(schema: &Schema, line: &[u8]) -> Option<RowEntry>
     ensures found { IfSome result
         (λ entry. (line.now ≡ line_text schema.now entry) × IsRowOf schema.now entry) }

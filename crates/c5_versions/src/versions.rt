@@ -14,7 +14,7 @@ use std::marker::Model;
 pub struct Version {
     /// The stamp of the transaction that wrote it; 0 at the start version alone.
     pub wrote: u64,
-    /// The greatest stamp that has read it; 0 where none has.
+    /// The greatest stamp that has read it; 0 if none has.
     pub read_by: u64,
     /// The row, or that it is gone.
     pub change: Change,
@@ -59,7 +59,7 @@ fn count_below(versions: &[Version], stamp: u64) -> usize
     }
 }
 
-// Where the version with the greatest `wrote` below the stamp stands.
+// The index of the version with the greatest `wrote` below the stamp.
 fn place_before(versions: &[Version], stamp: u64) -> usize
     requires proper { IsVersions versions.now }
     requires positive { 1 ≤ stamp }
