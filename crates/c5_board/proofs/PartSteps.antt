@@ -21,7 +21,7 @@ use Rattle.c5_board.specs.Passes.{IsLookOf}
 use Rattle.c5_board.specs.Rule.{BoardWords, Holders, IsFoundInstalled}
 use Rattle.c5_board.specs.Views.{Taken, part_view, rest_view, joined_view, spent_view}
 use Rattle.c5_board.proofs.Facts.{Facts}
-use Rattle.c5_board.proofs.SetLemmas.{not_both, or_left, or_right, has-here, has_front, has_back, has_part, one_number, has-filter, filter-is_among, greater-length, greater-of, length-range, range-at}
+use Rattle.c5_board.proofs.SetLemmas.{not_both, or_left, or_right, has-here, has_front, has_back, has_part, one_number, has-filter, filter-has, greater-length, greater-of, length-range, range-at}
 use Rattle.c5_board.proofs.SeatLemmas.{there, one_view, look_more, St, Rule, Seat, words_in}
 
 -- what stands in a longer list stood in the list, or is the new element at its end
@@ -65,8 +65,8 @@ module _ (t : ℕ) where
   abbrev part_roles : List ℕ
   part_roles = cond (t == 0) [] (t ∷ [])
 
-  pub part-is_among : (i : ℕ) → is_among i (cond (t == 0) [] (t ∷ [])) ≡ true → (i ≡ t) × (t ≢ 0)
-  part-is_among i = at (t == 0) refl
+  pub part-has : (i : ℕ) → is_among i (cond (t == 0) [] (t ∷ [])) ≡ true → (i ≡ t) × (t ≢ 0)
+  part-has i = at (t == 0) refl
     where
       at : (b : Bool) → (t == 0) ≡ b → is_among i (cond b [] (t ∷ [])) ≡ true → (i ≡ t) × (t ≢ 0)
       at true e h = absurd (true≢false (sym h))
@@ -75,8 +75,8 @@ module _ (t : ℕ) where
   pub has-part : t ≢ 0 → is_among t (cond (t == 0) [] (t ∷ [])) ≡ true
   has-part ne = rw (ne_eqb t 0 ne) (has-here t [])
 
-  pub rest-is_among : (i : ℕ) (roles : List ℕ) → is_among i (cond (t == 0) roles (without t roles)) ≡ true → (is_among i roles ≡ true) × (t ≢ 0 → i ≢ t)
-  rest-is_among i roles = at (t == 0) refl
+  pub rest-has : (i : ℕ) (roles : List ℕ) → is_among i (cond (t == 0) roles (without t roles)) ≡ true → (is_among i roles ≡ true) × (t ≢ 0 → i ≢ t)
+  rest-has i roles = at (t == 0) refl
     where
       at : (b : Bool) → (t == 0) ≡ b → is_among i (cond b roles (without t roles)) ≡ true → (is_among i roles ≡ true) × (t ≢ 0 → i ≢ t)
       at true e h = (h, (λ ne. absurd (ne (eqb-true t 0 e))))
@@ -85,7 +85,7 @@ module _ (t : ℕ) where
   pub has-rest : (i : ℕ) (roles : List ℕ) → is_among i roles ≡ true → (t ≢ 0 → i ≢ t) → is_among i (cond (t == 0) roles (without t roles)) ≡ true
   has-rest i roles h other = dite (ℕ_discrete t 0)
       (λ e. rw (eq-eqb t 0 e) h)
-      (λ ne. rw (ne_eqb t 0 ne) (filter-is_among (λ m. not (t == m)) i roles h (ap not (ne_eqb t i (λ same. other ne (sym same))))))
+      (λ ne. rw (ne_eqb t 0 ne) (filter-has (λ m. not (t == m)) i roles h (ap not (ne_eqb t i (λ same. other ne (sym same))))))
 
   module _ (workers : ℕ) where
     pub part-installed : (w : ℕ) (installed : List ℕ) → is_among w (cond (t == 0) [] (owned_by workers t installed)) ≡ true → (is_among w installed ≡ true) × (owner_of workers w ≡ t) × (t ≢ 0)
@@ -96,7 +96,7 @@ module _ (t : ℕ) where
         at false e h = let p = has-filter (λ w. t == owner_of workers w) w installed h in (p.0, sym (eqb-true t (owner_of workers w) p.1), (λ z. not_both (t == 0) (eq-eqb t 0 z) e))
 
     pub installed-part : (w : ℕ) (installed : List ℕ) → is_among w installed ≡ true → owner_of workers w ≡ t → t ≢ 0 → is_among w (cond (t == 0) [] (owned_by workers t installed)) ≡ true
-    installed-part w installed h own ne = rw (ne_eqb t 0 ne) (filter-is_among (λ w. t == owner_of workers w) w installed h (eq-eqb t (owner_of workers w) (sym own)))
+    installed-part w installed h own ne = rw (ne_eqb t 0 ne) (filter-has (λ w. t == owner_of workers w) w installed h (eq-eqb t (owner_of workers w) (sym own)))
 
     pub rest-installed : (w : ℕ) (installed : List ℕ) → is_among w (cond (t == 0) installed (owned_by_others workers t installed)) ≡ true → (is_among w installed ≡ true) × (t ≢ 0 → owner_of workers w ≢ t)
     rest-installed w installed = at (t == 0) refl
@@ -109,7 +109,7 @@ module _ (t : ℕ) where
     pub installed-rest : (w : ℕ) (installed : List ℕ) → is_among w installed ≡ true → (t ≢ 0 → owner_of workers w ≢ t) → is_among w (cond (t == 0) installed (owned_by_others workers t installed)) ≡ true
     installed-rest w installed h other = dite (ℕ_discrete t 0)
         (λ e. rw (eq-eqb t 0 e) h)
-        (λ ne. rw (ne_eqb t 0 ne) (filter-is_among (λ w. not (t == owner_of workers w)) w installed h (ap not (ne_eqb t (owner_of workers w) (λ same. other ne (sym same))))))
+        (λ ne. rw (ne_eqb t 0 ne) (filter-has (λ w. not (t == owner_of workers w)) w installed h (ap not (ne_eqb t (owner_of workers w) (λ same. other ne (sym same))))))
 
 module _ (log : Log) (workers : ℕ) (k : Facts log workers) where
   -- ---- a view with other roles, which knows the same
@@ -195,12 +195,12 @@ module _ (log : Log) (workers : ℕ) (k : Facts log workers) where
         part_fits r.holders after x id (length s.views) v (cond (taken.worker == 0) [] (taken.worker ∷ [])) (cond (taken.worker == 0) [] (owned_by v.workers taken.worker v.installed)) taken.snapshot taken.scheduler
         (cond taken.scheduler v.written 0) (cond taken.scheduler v.indexed 0) [] refl refl
         (record {
-          held = λ i has_i. let q = part-is_among taken.worker i has_i in
+          held = λ i has_i. let q = part-has taken.worker i has_i in
               (subst (λ (j : ℕ). is_among j v.roles ≡ true) (sym q.0) (is.worker q.1), subst (λ (j : ℕ). passed taken.worker (length s.views) r.holders.worker j ≡ length s.views) (sym q.0) (passed_here taken.worker (length s.views) r.holders.worker q.1));
           numbers = λ w has_w. let q = part-installed taken.worker v.workers w v.installed has_w in
               let own : owner_of workers w ≡ taken.worker = ap (λ (n : ℕ). owner_of n w) (sym f.same_workers) ∙ q.1 in
               (q.0, subst (λ (j : ℕ). is_among j (cond (taken.worker == 0) [] (taken.worker ∷ [])) ≡ true) (sym own) (has-part taken.worker q.2));
-          all_numbers = λ w has_w own. let q = part-is_among taken.worker (owner_of workers w) own in
+          all_numbers = λ w has_w own. let q = part-has taken.worker (owner_of workers w) own in
               installed-part taken.worker v.workers w v.installed has_w (ap (λ (n : ℕ). owner_of n w) f.same_workers ∙ q.0) q.1;
           sees = λ t. (is.snapshot t, ap (λ (b : Bool). cond b (length s.views) r.holders.snapshot) t);
           schedules = λ t. (is.scheduler t, ap (λ (b : Bool). cond b (length s.views) r.holders.scheduler) t, ap (λ (b : Bool). cond b v.written 0) t, ap (λ (b : Bool). cond b v.indexed 0) t);
@@ -212,10 +212,10 @@ module _ (log : Log) (workers : ℕ) (k : Facts log workers) where
         part_fits r.holders after x id id v (cond (taken.worker == 0) v.roles (without taken.worker v.roles)) (cond (taken.worker == 0) v.installed (owned_by_others v.workers taken.worker v.installed))
         (cond taken.snapshot false v.snapshot) (cond taken.scheduler false v.scheduler) (cond taken.scheduler 0 v.written) (cond taken.scheduler 0 v.indexed) v.looks refl refl
         (record {
-          held = λ i has_i. let q = rest-is_among taken.worker i v.roles has_i in (q.0, passed_else taken.worker (length s.views) r.holders.worker i q.1 ∙ (f.roles i q.0).1);
+          held = λ i has_i. let q = rest-has taken.worker i v.roles has_i in (q.0, passed_else taken.worker (length s.views) r.holders.worker i q.1 ∙ (f.roles i q.0).1);
           numbers = λ w has_w. let q = rest-installed taken.worker v.workers w v.installed has_w in
               (q.0, has-rest taken.worker (owner_of workers w) v.roles (f.installed w q.0).1 (λ ne same. q.1 ne (ap (λ (n : ℕ). owner_of n w) f.same_workers ∙ same)));
-          all_numbers = λ w has_w own. let q = rest-is_among taken.worker (owner_of workers w) v.roles own in
+          all_numbers = λ w has_w own. let q = rest-has taken.worker (owner_of workers w) v.roles own in
               installed-rest taken.worker v.workers w v.installed has_w (λ ne same. q.1 ne (ap (λ (n : ℕ). owner_of n w) (sym f.same_workers) ∙ same));
           sees = rest_sees taken.snapshot refl f;
           schedules = rest_schedules taken.scheduler refl f;

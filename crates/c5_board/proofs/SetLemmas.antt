@@ -83,9 +83,9 @@ passes-step test n x xs false e passes rest h = ⊎_elim
     (λ (t : is_among n xs ≡ true). rest t)
     (has-split n x xs h)
 
-pub filter-is_among : (test : ℕ → Bool) (n : ℕ) (xs : List ℕ) → is_among n xs ≡ true → test n ≡ true → is_among n (filter test xs) ≡ true
-filter-is_among test n [] h passes = absurd (true≢false (sym h))
-filter-is_among test n (x ∷ xs) h passes = passes-step test n x xs (test x) refl passes (λ t. filter-is_among test n xs t passes) h
+pub filter-has : (test : ℕ → Bool) (n : ℕ) (xs : List ℕ) → is_among n xs ≡ true → test n ≡ true → is_among n (filter test xs) ≡ true
+filter-has test n [] h passes = absurd (true≢false (sym h))
+filter-has test n (x ∷ xs) h passes = passes-step test n x xs (test x) refl passes (λ t. filter-has test n xs t passes) h
 
 -- ---- ranges
 

@@ -15,7 +15,7 @@ use Rattle.c5_board.specs.Cuts.{Holds, part_of, rest_of}
 use Rattle.c5_board.proofs.Facts.{Facts}
 use Rattle.c5_board.proofs.SetLemmas.{has_front, has_back, has_part, greater-length, greater-of}
 use Rattle.c5_board.proofs.SeatLemmas.{look_more}
-use Rattle.c5_board.proofs.PartSteps.{part-is_among, has-part, rest-is_among, has-rest, part-installed, rest-installed}
+use Rattle.c5_board.proofs.PartSteps.{part-has, has-part, rest-has, has-rest, part-installed, rest-installed}
 
 -- a pass with other roles, which knows the same
 abbrev reroled : Pass → List ℕ → List ℕ → Bool → Bool → ℕ → ℕ → List Look → Pass
@@ -55,7 +55,7 @@ sound_part taken p is f =
     part_sound p (cond (taken.worker == 0) [] (taken.worker ∷ [])) (cond (taken.worker == 0) [] (owned_by p.board.workers taken.worker p.installed)) taken.snapshot taken.scheduler
     (cond taken.scheduler p.written 0) (cond taken.scheduler p.indexed 0) []
     (record {
-      held = λ i has_i. let q = part-is_among taken.worker i has_i in subst (λ (j : ℕ). is_among j p.roles ≡ true) (sym q.0) (is.worker q.1);
+      held = λ i has_i. let q = part-has taken.worker i has_i in subst (λ (j : ℕ). is_among j p.roles ≡ true) (sym q.0) (is.worker q.1);
       numbers = λ w has_w. let q = part-installed taken.worker p.board.workers w p.installed has_w in
           (q.0, subst (λ (j : ℕ). is_among j (cond (taken.worker == 0) [] (taken.worker ∷ [])) ≡ true) (sym q.1) (has-part taken.worker q.2));
     })
@@ -66,7 +66,7 @@ sound_rest taken p f =
     part_sound p (cond (taken.worker == 0) p.roles (without taken.worker p.roles)) (cond (taken.worker == 0) p.installed (owned_by_others p.board.workers taken.worker p.installed))
     (cond taken.snapshot false p.snapshot) (cond taken.scheduler false p.scheduler) (cond taken.scheduler 0 p.written) (cond taken.scheduler 0 p.indexed) p.looks
     (record {
-      held = λ i has_i. (rest-is_among taken.worker i p.roles has_i).0;
+      held = λ i has_i. (rest-has taken.worker i p.roles has_i).0;
       numbers = λ w has_w. let q = rest-installed taken.worker p.board.workers w p.installed has_w in
           (q.0, has-rest taken.worker (owner_of p.board.workers w) p.roles (f.installed w q.0).1 q.1);
     })

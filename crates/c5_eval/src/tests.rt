@@ -293,7 +293,6 @@ fn a_text_is_no_number(rt: HostRuntime) -> Result<(), Fail> {
         ],
     )?;
     assert!(rt; evaluate_rows(alloc, &body, &Rows::new(alloc))?.declined);
-    evaluation_law();
     Ok(())
 }
 

@@ -1,6 +1,9 @@
 ghost use Rattle.std.specs.Prelude.{◌≤◌, length};
 
 use super::*;
+use c5_rows::{
+    Cell, CellType, Change, Columns, Key, Row, RowName, Schema, TableDef, TableName, Txn, Writes,
+};
 use std::alloc::Global;
 use std::process::Abort;
 use std::test::Fail;
@@ -74,6 +77,30 @@ fn has_fault(
 }
 
 #[test]
+fn one_put_is_encoded(rt: HostRuntime) -> Result<(), Fail> {
+    let alloc = rt.alloc();
+    let columns = Columns::new(&[CellType::Int]).ok_or("one column")?;
+    let schema = Schema::one(TableDef {
+        name: TableName::new(b"acct")?,
+        columns,
+    });
+    let mut writes = Writes::new(alloc);
+    let name = RowName {
+        table: 0,
+        key: Key::new(b"a")?,
+    };
+    let row = Row::new(&[Cell::Int(10)]).ok_or("one cell")?;
+    writes.set(name, Change::Put(row))?;
+    let txn = Txn {
+        script: 0,
+        stamp: 1,
+        writes,
+    };
+    assert_eq!(rt; encode(alloc, &schema, &[txn])?.as_slice(), ONE.as_slice());
+    Ok(())
+}
+
+#[test]
 fn one_transaction_byte_by_byte(rt: HostRuntime) -> Result<(), Fail> {
     let mut decoder = Decoder::new(rt.alloc());
     for byte in &ONE {
@@ -107,7 +134,7 @@ fn one_transaction_byte_by_byte(rt: HostRuntime) -> Result<(), Fail> {
 }
 
 #[test]
-fn each_front_is_cut(rt: HostRuntime) -> Result<(), Fail> {
+fn each_prefix_is_cut(rt: HostRuntime) -> Result<(), Fail> {
     let mut begin = 0;
     for count in 0..ONE.len() {
         for offset in &BEGINS {

@@ -21,7 +21,7 @@ use Rattle.c5_plan.specs.Written.{is_same_name, row_count, last_from, last_write
 use Rattle.c5_plan.specs.declared.written.NameRef.{NameRef}
 use Rattle.c5_plan.specs.Noted.{name_of_ref, Notes}
 use Rattle.c5_plan.proofs.Sizing.{length-names_in}
-use Rattle.c5_plan.proofs.Names.{found-inserted, IsDistinct-name_of_ref, member-found}
+use Rattle.c5_plan.proofs.Names.{found-inserted, IsDistinct-named, member-found}
 
 pub same_laws : IsEquivalence is_same_name
 same_laws = eq_by_cmp_equiv row_name_cmp_total
@@ -109,20 +109,20 @@ unique_members (n ∷ names) q h = by (is_member is_same_name names n) (is_same_
     by false true m t p r = ap (λ (b : Bool). b || is_member is_same_name (unique_keys is_same_name names) q) t
     by false false m t p r = ap (λ (b : Bool). b || is_member is_same_name (unique_keys is_same_name names) q) t ∙ r p
 
-length-name_of_ref : (entries : List (NameRef × ℕ)) → length (map name_of_ref (keys_of entries)) ≡ length entries
-length-name_of_ref entries = length-map (keys_of entries) name_of_ref ∙ length-keys_of entries
+length-named : (entries : List (NameRef × ℕ)) → length (map name_of_ref (keys_of entries)) ≡ length entries
+length-named entries = length-map (keys_of entries) name_of_ref ∙ length-keys_of entries
 
 members : (entries : List (NameRef × ℕ)) (names : List RowName) → Notes entries names → (q : RowName) → is_member is_same_name (map name_of_ref (keys_of entries)) q ≡ is_member is_same_name names q
 members entries names h q = member-found name_of_ref is_same_name q entries ∙ ap is_some (h.last q) ∙ is_some-last q 1 names
 
 -- the number of rows that are noted
 pub length-noted : (entries : List (NameRef × ℕ)) (names : List RowName) → Notes entries names → length entries ≡ row_count names
-length-noted entries names h = sym (length-name_of_ref entries) ∙ length-from_keys same_laws (map name_of_ref (keys_of entries)) names h.distinct (members entries names h)
+length-noted entries names h = sym (length-named entries) ∙ length-from_keys same_laws (map name_of_ref (keys_of entries)) names h.distinct (members entries names h)
 
 -- a prefix of the writes has no more rows
 pub length-noted_le : (entries : List (NameRef × ℕ)) (names : List RowName) (i : ℕ) → Notes entries (take i names) → length entries ≤ row_count names
 length-noted_le entries names i h =
-    let e = length-name_of_ref entries in
+    let e = length-named entries in
     let few = length-le_from_is_member same_laws (map name_of_ref (keys_of entries)) (unique_keys is_same_name names) h.distinct
     (λ q m. unique_members names q (prefix_members names i q (sym (members entries (take i names) h q) ∙ m))) in
     omega arith
@@ -138,7 +138,7 @@ Notes-inserted eq agrees entries after names i name h at is distinct =
     let within = slice_get_within names i (name_of_ref name) at in
     let len : 1 + length (take i names) ≡ i + 1 = omega (arith, length-take i names) in
     record {
-      distinct = IsDistinct-name_of_ref name_of_ref eq is_same_name agrees (keys_of after) distinct;
+      distinct = IsDistinct-named name_of_ref eq is_same_name agrees (keys_of after) distinct;
       last = λ q.
           ap (λ (es : List (NameRef × ℕ)). lookup (λ (n : NameRef). is_same_name q (name_of_ref n)) es) is
           ∙ found-inserted name_of_ref eq is_same_name same_laws agrees q entries name (i + 1)

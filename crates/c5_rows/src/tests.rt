@@ -229,6 +229,7 @@ fn answers_and_replies_keep_their_order(rt: HostRuntime) -> Result<(), Fail> {
     for reply in replies.as_slice() {
         assert_eq!(rt; reply.session, 2);
         assert_eq!(rt; reply.place, 9);
+        assert_eq!(rt; reply.answer.as_slice(), lines.as_slice());
     }
     Ok(())
 }

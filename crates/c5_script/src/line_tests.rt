@@ -31,15 +31,17 @@ fn take(alloc: Global, script: &mut PartialScript, lines: &str) -> Result<(), Li
     Ok(())
 }
 
-fn faults(alloc: Global, heading: &str, lines: &str) -> Option<ScriptKind> {
+// The fault of the last of the lines, or `None` if all are accepted.
+fn fault(alloc: Global, heading: &str, lines: &str) -> Result<Option<ScriptKind>, AllocError> {
     let mut script = PartialScript::new(alloc);
     let taken = match take(alloc, &mut script, heading) {
         Ok(()) => take(alloc, &mut script, lines),
         Err(error) => Err(error),
     };
     match taken {
-        Err(LineError::Fault(kind)) => Some(kind),
-        _ => None,
+        Ok(()) => Ok(None),
+        Err(LineError::Fault(kind)) => Ok(Some(kind)),
+        Err(LineError::NoMemory) => Err(AllocError),
     }
 }
 
@@ -78,9 +80,9 @@ fn lines_outside_blocks(rt: HostRuntime) -> Result<(), Fail> {
         ("turns w16 v s9//turns s10", None),
     ];
     for (lines, kind) in cases {
-        assert_eq!(rt; faults(rt.alloc(), TABLES, lines), kind, "{lines}");
+        assert_eq!(rt; fault(rt.alloc(), TABLES, lines)?, kind, "{lines}");
     }
-    assert_eq!(rt; faults(rt.alloc(), "", "txn"), Some(ScriptKind::Word));
+    assert_eq!(rt; fault(rt.alloc(), "", "txn")?, Some(ScriptKind::Word));
     Ok(())
 }
 
@@ -133,7 +135,7 @@ fn lines_of_a_transaction(rt: HostRuntime) -> Result<(), Fail> {
         ("txn/del acct a b", Some(ScriptKind::Count)),
     ];
     for (lines, kind) in cases {
-        assert_eq!(rt; faults(rt.alloc(), TABLES, lines), kind, "{lines}");
+        assert_eq!(rt; fault(rt.alloc(), TABLES, lines)?, kind, "{lines}");
     }
     Ok(())
 }
@@ -159,7 +161,7 @@ fn lines_of_a_read_block(rt: HostRuntime) -> Result<(), Fail> {
         ),
     ];
     for (lines, kind) in cases {
-        assert_eq!(rt; faults(rt.alloc(), TABLES, lines), kind, "{lines}");
+        assert_eq!(rt; fault(rt.alloc(), TABLES, lines)?, kind, "{lines}");
     }
     Ok(())
 }
@@ -177,8 +179,9 @@ fn fault_behind(alloc: Global, count: u32, lines: &str, last: &str) -> Option<Sc
         taken = take(alloc, &mut script, last);
     }
     match taken {
-        Err(LineError::Fault(kind)) => Some(kind),
-        _ => None,
+        Ok(()) => Ok(None),
+        Err(LineError::Fault(kind)) => Ok(Some(kind)),
+        Err(LineError::NoMemory) => Err(AllocError),
     }
 }
 

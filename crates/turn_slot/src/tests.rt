@@ -141,6 +141,7 @@ fn two_threads_take_turns(rt: HostRuntime) -> Result<(), Fail> {
     let both = slot.join(first, second);
     let value = slot.close(both);
     let ones = value.added.iter().filter(|by| **by == 1).count();
+    assert!(rt; a > 0 && b > 0);
     assert!(rt; ones == a && a.checked_add(b) == Some(value.added.len()));
     Ok(())
 }
