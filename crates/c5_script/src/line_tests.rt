@@ -31,6 +31,15 @@ fn take(alloc: Global, script: &mut PartialScript, lines: &str) -> Result<(), Li
     Ok(())
 }
 
+// The fault that lines ended with, or `None` if all were accepted.
+fn found(taken: Result<(), LineError>) -> Result<Option<ScriptKind>, AllocError> {
+    match taken {
+        Ok(()) => Ok(None),
+        Err(LineError::Fault(kind)) => Ok(Some(kind)),
+        Err(LineError::NoMemory) => Err(AllocError),
+    }
+}
+
 // The fault of the last of the lines, or `None` if all are accepted.
 fn fault(alloc: Global, heading: &str, lines: &str) -> Result<Option<ScriptKind>, AllocError> {
     let mut script = PartialScript::new(alloc);
@@ -38,11 +47,7 @@ fn fault(alloc: Global, heading: &str, lines: &str) -> Result<Option<ScriptKind>
         Ok(()) => take(alloc, &mut script, lines),
         Err(error) => Err(error),
     };
-    match taken {
-        Ok(()) => Ok(None),
-        Err(LineError::Fault(kind)) => Ok(Some(kind)),
-        Err(LineError::NoMemory) => Err(AllocError),
-    }
+    found(taken)
 }
 
 const TABLES: &str = "table acct int/table t text int";
@@ -167,7 +172,12 @@ fn lines_of_a_read_block(rt: HostRuntime) -> Result<(), Fail> {
 }
 
 // The fault of the last of the lines, after these lines `count` times.
-fn fault_behind(alloc: Global, count: u32, lines: &str, last: &str) -> Option<ScriptKind> {
+fn fault_after(
+    alloc: Global,
+    count: u32,
+    lines: &str,
+    last: &str,
+) -> Result<Option<ScriptKind>, AllocError> {
     let mut script = PartialScript::new(alloc);
     let mut taken = take(alloc, &mut script, TABLES);
     for _ in 0..count {
@@ -178,11 +188,7 @@ fn fault_behind(alloc: Global, count: u32, lines: &str, last: &str) -> Option<Sc
     if taken.is_ok() {
         taken = take(alloc, &mut script, last);
     }
-    match taken {
-        Ok(()) => Ok(None),
-        Err(LineError::Fault(kind)) => Ok(Some(kind)),
-        Err(LineError::NoMemory) => Err(AllocError),
-    }
+    found(taken)
 }
 
 #[test]
@@ -190,19 +196,19 @@ fn counts_past_their_limits(rt: HostRuntime) -> Result<(), Fail> {
     let alloc = rt.alloc();
     let reads = "read 1/row acct a/end";
     assert_eq!(rt;
-        fault_behind(alloc, 255, reads, "read"),
+        fault_after(alloc, 255, reads, "read")?,
         Some(ScriptKind::Count)
     );
     assert_eq!(rt;
-        fault_behind(alloc, 256, reads, "read"),
+        fault_after(alloc, 256, reads, "read")?,
         Some(ScriptKind::Limit)
     );
     assert_eq!(rt;
-        fault_behind(alloc, 65536, "turns v", "turns x"),
+        fault_after(alloc, 65536, "turns v", "turns x")?,
         Some(ScriptKind::Limit)
     );
     assert_eq!(rt;
-        fault_behind(alloc, 65535, "turns v", "turns x"),
+        fault_after(alloc, 65535, "turns v", "turns x")?,
         Some(ScriptKind::Number)
     );
     Ok(())
