@@ -79,7 +79,7 @@ fn marks_show_their_numbers(rt: HostRuntime) -> Result<(), Fail> {
 }
 
 #[test]
-fn the_first_test_that_fails_is_told(rt: HostRuntime) -> Result<(), Fail> {
+fn the_first_test_that_fails_is_reported(rt: HostRuntime) -> Result<(), Fail> {
     let tables = tables()?;
     let texts: [(&[u8], LogKind); 20] = [
         (b"", LogKind::Kind),

@@ -79,7 +79,7 @@ fn more_than_the_limit_is_too_long(rt: HostRuntime) -> Result<(), Fail> {
 }
 
 #[test]
-fn a_failed_read_is_told(rt: HostRuntime) -> Result<(), Fail> {
+fn a_failed_read_is_reported(rt: HostRuntime) -> Result<(), Fail> {
     let alloc = rt.alloc();
     for call in 1..=4 {
         // In steps of 5 the fourth read meets the end.
@@ -117,7 +117,7 @@ fn a_text_is_written(rt: HostRuntime) -> Result<(), Fail> {
 }
 
 #[test]
-fn a_failed_write_is_told(rt: HostRuntime) -> Result<(), Fail> {
+fn a_failed_write_is_reported(rt: HostRuntime) -> Result<(), Fail> {
     let alloc = rt.alloc();
     let fails = vec![in alloc; 2, 3]?;
     let mut sink = MemorySink::new(alloc, 100, 4, fails)?;
@@ -134,7 +134,7 @@ fn a_failed_write_is_told(rt: HostRuntime) -> Result<(), Fail> {
 }
 
 #[test]
-fn refused_memory_is_told(rt: HostRuntime) {
+fn refused_memory_is_reported(rt: HostRuntime) {
     let alloc = rt.alloc();
     let answer = MemorySink::new(alloc, usize::MAX, 1, Vec::new(alloc));
     assert!(rt; matches!(answer, Err(NoMemory)));

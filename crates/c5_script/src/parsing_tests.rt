@@ -245,7 +245,7 @@ fn one_more_than_each_limit(rt: HostRuntime) -> Result<(), Fail> {
 }
 
 #[test]
-fn fronts(rt: HostRuntime) -> Result<(), Fail> {
+fn scripts_before_a_log(rt: HostRuntime) -> Result<(), Fail> {
     for line in [b"log\n".as_slice(), b" log  \n"] {
         let bytes = joined(rt.alloc(), &[TABLE, b"\n", line, LOG])?;
         let front = front_in(rt.alloc(), &bytes)?;
@@ -258,7 +258,7 @@ fn fronts(rt: HostRuntime) -> Result<(), Fail> {
 }
 
 #[test]
-fn faults_of_fronts(rt: HostRuntime) -> Result<(), Fail> {
+fn faults_before_a_log(rt: HostRuntime) -> Result<(), Fail> {
     use ScriptKind::*;
     for (parts, line, kind) in [
         ([TABLE, b"".as_slice(), b"".as_slice()], 2, Unclosed),

@@ -63,7 +63,7 @@ fn a_script_has_what_was_pushed(rt: HostRuntime) -> Result<(), Fail> {
 }
 
 #[test]
-fn a_body_too_many_is_told(rt: HostRuntime) -> Result<(), Fail> {
+fn a_body_too_many_is_reported(rt: HostRuntime) -> Result<(), Fail> {
     let mut script = Script::new(rt.alloc(), accounts()?);
     for _ in 0..65_536 {
         script.push_body(Body::new(rt.alloc()))?;

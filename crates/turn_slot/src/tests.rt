@@ -62,7 +62,7 @@ fn opened(alloc: Global) -> Result<Opened, NoMemory>
 }
 
 #[test]
-fn busy_tells_the_holder_and_give_ends_the_turn(rt: HostRuntime) -> Result<(), Fail> {
+fn busy_reports_the_holder_and_give_ends_the_turn(rt: HostRuntime) -> Result<(), Fail> {
     let (slot, first, second) = opened(rt.alloc())?;
     assert!(rt; first.number() == 1 && second.number() == 2);
     let Take::Took { mut value, turn } = slot.try_take(first) else {
