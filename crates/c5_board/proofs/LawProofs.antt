@@ -46,6 +46,7 @@ module _ (log : Log) (workers : ℕ) (k : Facts log workers) (s : Boarded) (r : 
 
   pub lawful : IsLawful log workers s
   lawful = record {
+    of_board = λ seat v at. let f = r.each seat v at in record { same_log = f.same_log; same_workers = f.same_workers };
     roles = record {
       worker = λ i is. let h = r.workers_held i is in record {
         seat = r.holders.worker i;
@@ -80,6 +81,7 @@ module _ (log : Log) (workers : ℕ) (k : Facts log workers) (s : Boarded) (r : 
       others = r.words.heads.others;
     };
     progress = record {
+      positive = λ i is. (r.words.progress i is).positive;
       owned = λ i is. (r.words.progress i is).owned;
       floor = λ seat v i at holds. sym ((r.each seat v at).own_floors i holds);
       below = λ i w is positive below own. done w ((r.words.progress i is).below w positive below own);

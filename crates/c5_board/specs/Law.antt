@@ -1,5 +1,5 @@
--- The law: what every state that the rule allows says. The installed numbers are those of all views
--- together.
+-- The law: what is true in every state that the rule allows. The installed numbers are those of all
+-- views together.
 use Rattle.std.specs.Prelude.{◌≡◌, ◌≢◌, ◌≤◌, ◌<◌, ◌+◌, ◌↔◌, ℕ, Bool, true, length, All}
 use mathlib.Core.Option.{some}
 use lib.ListN.{get_elem?}
@@ -17,9 +17,9 @@ use Rattle.c5_board.specs.Sets.{number_of}
 use Rattle.c5_rows.specs.Numbers.{is_among}
 use Rattle.c5_board.specs.Words.{writes_in, buckets_in, packed}
 use Rattle.c5_board.specs.Boards.{record_of, IsWorker}
+use Rattle.c5_rows.specs.Sizes.{max_workers}
 use Rattle.c5_board.specs.Passes.{IsHeadOf, IsLookOf, bucket_up_to}
 use Rattle.c5_board.specs.Rule.{BoardWords, board_words, IsKept}
-use Rattle.c5_rows.specs.Sizes.{max_workers}
 
 abbrev pub Boarded : Type 0
 Boarded = State (Unit {0}) Known
@@ -44,8 +44,13 @@ module _ (log : Log) (workers : ℕ) (s : Boarded) where
   abbrev pub the_words : BoardWords
   the_words = board_words log workers s.words
 
-  -- 1. each role is held by exactly one view, and installed numbers are writes that the view's
-  -- roles own, each installed once
+  -- each view is of this log and of this number of workers
+  pub record IsOfBoard (v : Known) : Type 0 where
+    pub same_log : v.log ≡ log
+    pub same_workers : v.workers ≡ workers
+
+  -- 1. each role is held by exactly one view, and a view's installed numbers are writes that its
+  -- roles own; no other view has them. They are a set: the rule doesn't say how often one is listed
   pub record RolesAreHeld : Type 0 where
     pub worker : (i : ℕ) → IsWorker workers i → IsHeldByOne s (λ v. is_among i v.roles)
     pub snapshot : IsHeldByOne s (λ v. v.snapshot)
@@ -65,9 +70,10 @@ module _ (log : Log) (workers : ℕ) (s : Boarded) where
     pub others : (w : ℕ) → IsWrite (names_in log.txns) w → row_of (names_in log.txns) w ≢ w
         → the_words.head w ≡ 0
 
-  -- 3. progress i is a number of worker i, the floor of the view with its role, and above it
-  -- nothing is missing
+  -- 3. progress i is a number that worker i owns, and the floor of the view with its role; each
+  -- number below it that worker i owns is installed
   pub record ProgressIsMade : Type 0 where
+    pub positive : (i : ℕ) → IsWorker workers i → 1 ≤ the_words.progress i
     pub owned : (i : ℕ) → IsWorker workers i → owner_of workers (the_words.progress i) ≡ i
     pub floor : (seat : ℕ) (v : Known) (i : ℕ) → HasView s seat v → is_among i v.roles ≡ true
         → the_words.progress i ≡ number_of v.floors i
@@ -104,8 +110,8 @@ module _ (log : Log) (workers : ℕ) (s : Boarded) where
     pub known : All (IsLookOf (names_in log.txns) v.floors v.place v.scheduled) v.looks
     pub done : All IsFoundDone v.looks
 
-  -- 7. records are those of the log, up to `written`, which is at most one ahead of the scheduled
-  -- word
+  -- 7. records are those of the log up to `written`, which is at most one ahead of the scheduled
+  -- word, and 0 above it
   pub record RecordsAreStored (v : Known) : Type 0 where
     pub scheduled : the_words.scheduled ≡ v.scheduled
     pub least : the_words.scheduled ≤ v.written
@@ -124,6 +130,7 @@ module _ (log : Log) (workers : ℕ) (s : Boarded) where
   -- the ten parts of the rule, and what follows: every write up to the end of the visible place is
   -- installed
   pub record IsLawful : Type 0 where
+    pub of_board : (seat : ℕ) (v : Known) → HasView s seat v → IsOfBoard v
     pub roles : RolesAreHeld
     pub heads : HeadsLead
     pub progress : ProgressIsMade
@@ -132,14 +139,18 @@ module _ (log : Log) (workers : ℕ) (s : Boarded) where
     pub looks : (seat : ℕ) (v : Known) → HasView s seat v → LooksAreTrue v
     pub records : (seat : ℕ) (v : Known) → HasView s seat v → v.scheduler ≡ true
         → RecordsAreStored v
-    -- 8
+    -- 8. no installed number is above the scheduled word
     pub scheduled : (w : ℕ) → IsDone s w → w ≤ the_words.scheduled
     pub index : (seat : ℕ) (v : Known) → HasView s seat v → v.scheduler ≡ true → RowsAreInIndex v
-    -- 10
+    -- 10. a bucket is the first write whose slot it is, if that is at most `indexed`, and else 0
     pub buckets : (seat : ℕ) (v : Known) (j : ℕ) → HasView s seat v → v.scheduler ≡ true
         → j < buckets_in log → the_words.bucket j ≡ bucket_up_to (names_in log.txns) v.indexed j
     pub all_visible : (w : ℕ) → 1 ≤ w → w ≤ end_of log.txns the_words.visible → IsDone s w
 
+-- a board has 1 to 16 workers
+abbrev pub IsWorkerCount : ℕ → Type 0
+IsWorkerCount workers = (1 ≤ workers) × (workers ≤ max_workers)
+
 abbrev pub BoardLaw : Type 0
-BoardLaw = (log : Log) (workers : ℕ) → IsPlanned log → IsWorker max_workers workers → (s : Boarded)
+BoardLaw = (log : Log) (workers : ℕ) → IsPlanned log → IsWorkerCount workers → (s : Boarded)
     → IsKept log workers s → IsLawful log workers s

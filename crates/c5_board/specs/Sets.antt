@@ -1,10 +1,8 @@
 -- Lists of numbers: as sets, and one number for each worker.
-use Prim.Native.Nat.{zero, suc}
-use Rattle.std.specs.Prelude.{ℕ, ◌-◌, ◌==◌, max, Bool, not, List, [], ◌∷◌, slice_index, slice_set}
-use Rattle.std.specs.List.{list_any, filter}
-use Rattle.c5_rows.specs.Numbers.{is_among, numbers_from}
+use Rattle.std.specs.Prelude.{ℕ, ◌-◌, ◌==◌, max, not, List, [], ◌∷◌, slice_index, slice_set}
+use Rattle.std.specs.List.{filter}
 
--- the numbers but for n
+-- the numbers without n
 abbrev pub without : ℕ → List ℕ → List ℕ
 without n numbers = filter (λ m. not (n == m)) numbers
 

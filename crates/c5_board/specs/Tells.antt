@@ -1,4 +1,4 @@
--- What each step tells: the view after it, and what was found.
+-- What each kind of step reports: the view after it, and what is known of the word that it found.
 use Rattle.std.specs.Prelude.{◌≡◌, ◌≢◌, ◌≤◌, ◌<◌, ℕ, true, List, length}
 use Rattle.atomic_table.specs.Seated.{TableId}
 use Rattle.atomic_table.specs.Table.{Me, Step}

@@ -42,7 +42,7 @@ spent_view log workers = record {
   looks = [];
 }
 
--- what the second part of a split takes: the role of a worker, where it isn't 0, the snapshot role,
+-- what the second part of a split takes: the role of a worker, if it isn't 0, the snapshot role,
 -- the scheduler role
 pub record Taken : Type 0 where
   pub worker : ℕ

@@ -3,14 +3,17 @@
 use c5_frames::LogBuffer;
 use std::collections::LinkedList;
 
-/// What is recorded of a write: its row's number, and its predecessor, or 0 if it has none.
+/// What is recorded of a write.
 #[derive(Clone, Copy, Debug, PartialEq, Eq)]
 pub struct Record {
+    /// The number of its row: that of the row's first write.
     pub row: u32,
+    /// Its predecessor: the greatest smaller number on the row, or 0 if there is none.
     pub predecessor: u32,
 }
 
-/// A step that found a word: its kind, its argument and what it found. No value of it is made.
+/// A step that found a word: its kind, its argument and what it found. Only contracts speak of it;
+/// no value of it is made.
 pub enum Look {
     /// A load of the head of a row.
     LoadHead { row: u32, found: u32 },
@@ -28,7 +31,7 @@ pub enum Look {
     LoadBucket { j: u32, found: u32 },
 }
 
-/// What a pass knows. No value of it is made.
+/// What a pass knows. Only contracts speak of it; no value of it is made.
 pub struct Known {
     /// The log of the board.
     pub log: LogBuffer,

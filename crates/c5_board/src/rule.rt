@@ -1,4 +1,4 @@
-//! The rule of the board, and what each step on it tells.
+//! The rule of the board, and what each kind of step on it reports.
 
 use crate::known::Known;
 use atomic_table::{Join, Play, Split, TableRule};
@@ -6,7 +6,7 @@ use c5_frames::LogBuffer;
 use std::marker::{Brand, PhantomData};
 use std::snapshot::Snapshot;
 
-/// What a board is told when it is made.
+/// What a board is made of: its log, and its number of workers.
 #[derive(Drop)]
 pub struct Opening {
     pub log: Snapshot<LogBuffer>,
@@ -24,8 +24,8 @@ impl TableRule<(), Known, Opening> for BoardRule {
     ghost first = { λ key. first_view key.log.value key.workers };
 }
 
-/// What a call on parts of a pass picks: what the second part of a split takes, and the view that a
-/// join leaves behind.
+/// The choices of a call that splits or joins: the roles that the second part of a split takes, and
+/// the view that is left in the place of a joined pass.
 pub trait Picks {
     ghost use Rattle.c5_board.specs.Views.{Taken};
     ghost use Rattle.c5_board.specs.declared.known.Known.{Known};
@@ -88,7 +88,7 @@ impl Play<(), Known> for ExchangesHead {
     ghost then = { exchanges_head };
 }
 
-/// A store of a progress.
+/// A store of a worker's progress.
 pub struct StoresProgress;
 
 impl Play<(), Known> for StoresProgress {
@@ -97,7 +97,7 @@ impl Play<(), Known> for StoresProgress {
     ghost then = { stores_progress };
 }
 
-/// A load of a progress.
+/// A load of a worker's progress.
 pub struct LoadsProgress;
 
 impl Play<(), Known> for LoadsProgress {

@@ -23,7 +23,7 @@ abbrev pub at_change_of : Option Write → At
 at_change_of None = Before
 at_change_of (Some write) = at_change write.change
 
--- what write w makes of its row; 0 is no write
+-- what write w makes of its row; 0 isn't a write
 abbrev pub at_number : List Write → ℕ → At
 at_number writes zero = Before
 at_number writes (suc i) = at_change_of (slice_get writes i)

@@ -24,14 +24,15 @@ tried p w head = record p {
 }
 
 -- the number, as far as the pass knows, isn't installed: it isn't among its installed numbers,
--- below its owner's floor or before the place
+-- below its owner's floor or up to the end of the place
 pub record IsUnknown (p : Pass) (w : ℕ) : Type 0 where
   pub write : IsWrite (names p.board) w
   pub not_installed : is_among w p.installed ≡ false
   pub not_below : floor_of p (owner_in p w) ≤ w
   pub after_place : end_in p p.place < w
 
--- the head was 0 or a number of the row, below the predecessor, which isn't known to be installed
+-- the head was 0 or a number of the row, below the predecessor, which isn't known to be installed.
+-- That a head found is installed follows from the law, by the look
 pub record IsBehind (p : Pass) (w seen : ℕ) : Type 0 where
   pub head : IsHeadOf (names p.board) (row_of (names p.board) w) seen
   pub below : seen < predecessor_of (names p.board) w

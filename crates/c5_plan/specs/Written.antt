@@ -18,7 +18,7 @@ is_same_name = eq_by_cmp row_name_cmp
 abbrev pub row_count : List RowName → ℕ
 row_count names = distinct_count is_same_name names
 
--- the number of the last write of this name, where the first of the names has this number
+-- the number of the last write of this name, if the first of the names has this number
 abbrev pub last_from : RowName → ℕ → List RowName → Option ℕ
 last_from name first [] = None
 last_from name first (other ∷ names) =

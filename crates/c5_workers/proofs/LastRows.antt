@@ -1,11 +1,10 @@
 -- The last number of each row, as one write after the other is scheduled.
-use Rattle.std.proofs.Common.{◌≡◌, ◌≢◌, ◌∙◌, ◌+◌, ◌-◌, ◌≤◌, ◌<◌, ◌⊎◌, inl, inr, ℕ, zero, suc, Bool, true, false, List, length, get_or, set, ap, sym, subst, refl, arith, get_or-set_same, get_or-set_other, length-set}
+use Rattle.std.proofs.Common.{◌≡◌, ◌≢◌, ◌∙◌, ◌+◌, ◌-◌, ◌≤◌, ◌<◌, ℕ, zero, suc, Bool, true, false, List, length, get_or, set, ap, sym, subst, refl, arith, get_or-set_same, get_or-set_other, length-set}
 use borrow.Author.Tests.{eqb-true, eqb-false}
 use lib.Dec.{eqb}
 use Rattle.c5_rows.specs.declared.writes.RowName.{RowName}
 use Rattle.c5_definitions.specs.WriteNumbers.{row_of, predecessor_of, last_on_row, IsWrite, IsFirstWrite}
-use Rattle.c5_definitions.specs.NumberLaws.{RowsAreNumbered, PredecessorsAreLast, IsLastOnRow}
-use Rattle.c5_board.specs.declared.known.Record.{Record}
+use Rattle.c5_definitions.specs.NumberLaws.{RowsAreNumbered, PredecessorsAreLast}
 use Rattle.c5_board.specs.Boards.{Pass, names, record_of}
 use Rattle.c5_workers.specs.Scheduling.{IsLastOfEach, IsReadyToRecord}
 

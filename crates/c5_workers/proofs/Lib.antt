@@ -1,5 +1,9 @@
 pub mod LastRows
 pub mod NextRows
+pub mod FirstWrites
 pub mod Turned
 pub mod TryLemmas
 pub mod WorkLemmas
+pub mod OnlyTurns
+pub mod LeftLemmas
+pub mod FinishLemmas

@@ -1,13 +1,12 @@
 -- The row of the next write.
-use Rattle.std.proofs.Common.{◌≡◌, ◌≢◌, ◌∙◌, ◌+◌, ◌-◌, ◌≤◌, ◌<◌, ℕ, zero, suc, Bool, true, false, List, length, Option, Some, None, slice_get, ap, sym, subst, refl, arith}
-use borrow.Author.Tests.{eqb-true, eqb-false, eq-eqb, ne_eqb}
-use lib.Dec.{eqb}
+use Rattle.std.proofs.Common.{◌≡◌, ◌∙◌, ◌-◌, ◌≤◌, ◌<◌, ℕ, List, Some, None, slice_get, ap, sym, subst, arith}
+use borrow.Author.Tests.{eq-eqb, ne_eqb}
 use Rattle.std.specs.Prelude.{if◌then◌else◌}
 use Rattle.c5_rows.specs.declared.writes.RowName.{RowName}
 use Rattle.c5_definitions.specs.WriteNumbers.{name_at, row_of, IsWrite, IsFirstWrite}
 use Rattle.c5_definitions.specs.RowIndex.{IsSlot}
 use Rattle.c5_definitions.specs.NumberLaws.{RowsAreNumbered}
-use Rattle.c5_board.specs.Boards.{Board, Pass, names, write_count}
+use Rattle.c5_board.specs.Boards.{Board, Pass, names}
 use Rattle.c5_chains.specs.Finds.{IsNumberOfRow, IsFree}
 use Rattle.c5_chains.specs.Paths.{FollowsPath}
 use Rattle.c5_chains.proofs.Naming.{name_at-write}
@@ -15,7 +14,7 @@ use Rattle.c5_chains.proofs.OnPaths.{same-names}
 use Rattle.c5_frames.specs.Index.{writes_of}
 use Rattle.c5_frames.specs.Log.{Log}
 use Rattle.c5_rows.specs.declared.writes.Write.{Write}
-use Rattle.c5_workers.specs.Scheduling.{IsNext, row_before, indexed_with, LooksUp, PlacesRow, IsTooMany}
+use Rattle.c5_workers.specs.Scheduling.{IsNext, LooksUp, PlacesRow, IsTooMany}
 
 pub next_write : (p : Pass) (w : ℕ) → IsNext p w → IsWrite (names p.board) w
 next_write p w next = let is = next.next in record { positive = omega arith; within = next.within }

@@ -1,9 +1,9 @@
 -- One try after the other.
-use Rattle.std.proofs.Common.{◌≡◌, ◌≢◌, ◌∙◌, ◌+◌, ◌-◌, ◌≤◌, ◌<◌, ◌++◌, ◌&&◌, ◌||◌, ℕ, zero, suc, Bool, true, false, not, List, [], ◌∷◌, length, take, drop, get_or, set, cond, ap, sym, subst, refl, arith, true≢false, append_assoc, append-nil, drop-cons, length-set, take_all}
+use Rattle.std.proofs.Common.{◌≡◌, ◌∙◌, ◌+◌, ◌≤◌, ◌<◌, ◌++◌, ◌&&◌, ◌||◌, ℕ, zero, suc, Bool, true, false, not, List, [], ◌∷◌, length, take, drop, get_or, set, cond, ap, sym, subst, refl, arith, true≢false, append_assoc, append-nil, drop-cons, length-set, take_all}
 use Rattle.std.proofs.lemmas.List.{drop_all}
 use borrow.Author.Tests.{eqb-true, eqb-false, eq-eqb, ne_eqb, lt-ltb, le-ltb, ltb-true, ltb-false}
 use lib.Dec.{eqb, ltb}
-use Rattle.std.specs.List.{AllByRecursion, list_any}
+use Rattle.std.specs.List.{AllByRecursion}
 use Rattle.std.proofs.Math.Seq.{take-suc, take-suc-set}
 use Rattle.c5_rows.specs.declared.writes.RowName.{RowName}
 use Rattle.c5_definitions.specs.WriteNumbers.{owner_of, predecessor_of, IsWrite}
@@ -11,7 +11,7 @@ use Rattle.c5_definitions.specs.NumberLaws.{NumbersAreOwned}
 use Rattle.c5_workers.proofs.LastRows.{not_same}
 use Rattle.c5_board.specs.declared.known.Look.{Look}
 use Rattle.c5_rows.specs.Numbers.{is_among}
-use Rattle.c5_board.specs.Boards.{Board, Pass, names}
+use Rattle.c5_board.specs.Boards.{Pass, names}
 use Rattle.c5_chains.specs.declared.install.Install.{Install}
 use Rattle.c5_chains.specs.declared.install.Install.TheVariants.{Installed, PutOff}
 use Rattle.c5_chains.specs.Tries.{tried, head_found, IsCaused}

@@ -1,20 +1,24 @@
 -- What a turn of the scheduler leaves.
-use Rattle.std.proofs.Common.{◌≡◌, ◌≢◌, ◌∙◌, ◌+◌, ◌-◌, ◌≤◌, ◌<◌, ◌++◌, ◌⊎◌, inl, inr, ℕ, zero, suc, Bool, true, false, List, length, get_or, Option, Some, None, ap, sym, subst, refl, arith}
+use Rattle.std.proofs.Common.{◌≡◌, ◌∙◌, ◌+◌, ◌-◌, ◌≤◌, ◌<◌, ◌++◌, ◌⊎◌, inl, inr, ℕ, zero, suc, Bool, true, false, List, [], length, append_assoc, append-nil, get_or, ap, sym, subst, refl, arith}
 use Rattle.std.proofs.lemmas.List.{length-replicate}
-use borrow.Author.Tests.{eqb-true, eqb-false, eq-eqb}
+use borrow.Author.Tests.{eqb-true, eq-eqb}
 use lib.Dec.{eqb}
 use Rattle.std.proofs.Math.Nat.{eq-or-lt_of_le}
 use Rattle.std.specs.Prelude.{if◌then◌else◌, replicate}
 use Rattle.c5_rows.specs.declared.writes.RowName.{RowName}
-use Rattle.c5_definitions.specs.WriteNumbers.{row_of, last_on_row, IsWrite, IsFirstWrite}
+use Rattle.c5_definitions.specs.WriteNumbers.{row_of, last_on_row, IsFirstWrite}
 use Rattle.c5_definitions.specs.NumberLaws.{RowsAreNumbered, PredecessorsAreLast}
 use Rattle.c5_board.specs.declared.known.Look.{Look}
-use Rattle.c5_board.specs.Boards.{Board, Pass, names, write_count}
+use Rattle.c5_board.specs.Boards.{Pass, names, write_count}
 use Rattle.c5_workers.specs.declared.scheduler.Scheduler.{Scheduler}
 use Rattle.c5_workers.specs.Scheduling.{rows_with, first_write_count, IsLastOfEach, IsNext, IsReadyToRecord, LooksUp, PlacesRow, indexed_with}
-use Rattle.c5_workers.specs.Schedules.{FitsSchedule, Schedules, OnlySchedules, IsFullOfRows, SchedulesAll}
+use Rattle.c5_plan.specs.Written.{row_count}
+use Rattle.c5_workers.specs.Schedules.{FitsSchedule, Schedules, OnlySchedules, IsFullOfRows, SchedulesAll, TakesTurn}
+use Rattle.c5_workers.specs.declared.schedule_turn.ScheduleTurn.{ScheduleTurn}
+use Rattle.c5_workers.specs.declared.schedule_turn.ScheduleTurn.TheVariants as turns
 use Rattle.c5_workers.specs.declared.schedule_turn.ScheduleEnd.TheVariants as ends
 use Rattle.c5_workers.proofs.LastRows.{not_same, last-none}
+use Rattle.c5_workers.proofs.FirstWrites.{rows_are_first_writes}
 
 pub next-of : (s : Scheduler) (p : Pass) → FitsSchedule s p → p.scheduled ≤ write_count p.board → (s.scheduled ≡ write_count p.board → ⊥) → IsNext p (s.scheduled + 1)
 next-of s p fits most more =
@@ -140,6 +144,41 @@ too_many-rows p full =
     let most = full.full in
     omega arith
 
+-- what turns leave
+only-from : (p q : Pass) (written indexed scheduled : ℕ) (more : List Look) → p.scheduled ≤ scheduled → q ≡ record p { written = written; indexed = indexed; scheduled = scheduled; looks = p.looks ++ more } → OnlySchedules p q
+only-from p q written indexed scheduled more up is = subst (OnlySchedules p) (sym is) (record { rest = refl; scheduled = up; more = more; looks = refl })
+
+pub only-none : (p : Pass) → OnlySchedules p p
+only-none p = only-from p p p.written p.indexed p.scheduled [] (omega arith) (λ i. record p { looks = sym (append-nil p.looks) i })
+
+only-looked : (p q : Pass) (w : ℕ) → LooksUp p q w → OnlySchedules p q
+only-looked p q w looks = only-from p q p.written p.indexed p.scheduled _ (omega arith) looks.path.pass
+
+only-scheduled : (p q : Pass) (w : ℕ) → Schedules p q w → OnlySchedules p q
+only-scheduled p q w s =
+    let is = s.next in
+    only-from p q w (indexed_with (names p.board) w p.indexed) w _ (omega arith)
+    (s.pass ∙ (λ i. record (s.looks.path.pass i) { indexed = indexed_with (names p.board) w (s.looks.path.pass i).indexed; written = w; scheduled = w }))
+
+pub only-turn : (p q : Pass) (turn : ScheduleTurn) → TakesTurn p q turn → OnlySchedules p q
+only-turn p q turns.Done h = subst (OnlySchedules p) (sym h.1) (only-none p)
+only-turn p q turns.Rows h = only-looked p q (p.scheduled + 1) h.1
+only-turn p q (turns.Did w) h = only-scheduled p q w h
+
+pub only-then : (p q r : Pass) → OnlySchedules p q → OnlySchedules q r → OnlySchedules p r
+only-then p q r h k =
+    let up = h.scheduled in
+    let further = k.scheduled in
+    record {
+      rest = k.rest ∙ (λ i. record (h.rest i) { written = r.written; indexed = r.indexed; scheduled = r.scheduled; looks = r.looks });
+      scheduled = omega arith;
+      more = h.more ++ k.more;
+      looks = k.looks ∙ ap (λ (l : List Look). l ++ k.more) h.looks ∙ append_assoc p.looks h.more k.more;
+    }
+
+all-rows : (p : Pass) → first_write_count (names p.board) (write_count p.board) ≡ row_count (names p.board)
+all-rows p = rows_are_first_writes (names p.board)
+
 pub ends-full : (old mid new : Pass) → OnlySchedules old mid → IsFullOfRows mid → LooksUp mid new (mid.scheduled + 1) → SchedulesAll old new ends.Rows
 ends-full old mid new only full looks =
     let is = looks.path.pass in
@@ -147,8 +186,16 @@ ends-full old mid new only full looks =
     let same : new ≡ record mid { looks = new.looks } = is ∙ (λ i. record mid { looks = ap (λ (p : Pass). p.looks) (sym is) i }) in
     let full_new : IsFullOfRows new = subst IsFullOfRows (sym same) kept in
     record {
-      only =
-          same ∙ (λ i. record (only i) { looks = new.looks })
-          ∙ (λ i. record old { written = ap (λ (p : Pass). p.written) (sym same) i; indexed = ap (λ (p : Pass). p.indexed) (sym same) i; scheduled = ap (λ (p : Pass). p.scheduled) (sym same) i; looks = new.looks });
-      is_end = (full_new, too_many-rows new full_new);
+      only = only-then old mid new only (only-looked mid new (mid.scheduled + 1) looks);
+      is_end = (full_new, subst (λ (n : ℕ). 65536 < n) (all-rows new) (too_many-rows new full_new));
     }
+
+pub ends-done : (old new : Pass) (s : Scheduler) → OnlySchedules old new → FitsSchedule s new → new.scheduled ≡ write_count new.board → SchedulesAll old new ends.Done
+ends-done old new s only fits all = record {
+  only = only;
+  is_end = (
+    all,
+    let count = fits.rows in let few = fits.few in
+        subst (λ (n : ℕ). n ≤ 65536) (fits.rows ∙ ap (first_write_count (names new.board)) all ∙ all-rows new) fits.few,
+  );
+}

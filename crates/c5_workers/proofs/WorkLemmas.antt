@@ -1,5 +1,5 @@
 -- A worker after a try, a load and a store.
-use Rattle.std.proofs.Common.{◌≡◌, ◌≢◌, ◌∙◌, ◌+◌, ◌-◌, ◌≤◌, ◌<◌, ◌++◌, ◌&&◌, ℕ, Bool, true, false, List, [], ◌∷◌, length, take, ap, sym, subst, refl, arith}
+use Rattle.std.proofs.Common.{◌≡◌, ◌∙◌, ◌+◌, ◌≤◌, ◌&&◌, ℕ, Bool, true, false, List, [], ◌∷◌, length, ap, sym, subst, refl, arith}
 use borrow.Author.Tests.{ltb-true}
 use lib.Dec.{ltb}
 use Rattle.std.specs.Prelude.{vec_capacity}
@@ -13,12 +13,12 @@ use Rattle.c5_board.specs.Passes.{IsSound, IsOutstanding, owner_in}
 use Rattle.c5_chains.specs.declared.install.Install.{Install}
 use Rattle.c5_chains.specs.Tries.{tried, head_found, IsCaused}
 use Rattle.c5_workers.specs.declared.worker.Worker.{Worker}
-use Rattle.c5_workers.specs.Tries.{IsWaiting, HasTried, FitsList, Tries, Retries, least_of, with_next}
+use Rattle.c5_workers.specs.Tries.{IsWaiting, FitsList, Tries, least_of, with_next}
 use Rattle.c5_workers.specs.Work.{FitsWorker, IsNewWorker, with_scheduled, with_progress}
 use Rattle.c5_workers.proofs.TryLemmas.{next-fits, least-left}
 
 -- the same numbers and list of another value of a worker
-list-of : (i j next later : ℕ) (list other : List ℕ) (q : Pass) → i ≡ j → next ≡ later → list ≡ other → FitsList i next list q → FitsList j later other q
+pub list-of : (i j next later : ℕ) (list other : List ℕ) (q : Pass) → i ≡ j → next ≡ later → list ≡ other → FitsList i next list q → FitsList j later other q
 list-of i j next later list other q a b c fits = subst (λ (l : List ℕ). FitsList j later l q) c (subst (λ (n : ℕ). FitsList j n list q) b (subst (λ (k : ℕ). FitsList k next list q) a fits))
 
 -- the next number was tried

@@ -2,3 +2,5 @@ pub mod Scheduling
 pub mod Schedules
 pub mod Tries
 pub mod Work
+pub mod Left
+pub mod Finishing

@@ -1,6 +1,8 @@
 -- When a scheduler fits a pass, and what its calls come to.
-use Rattle.std.specs.Prelude.{◌≡◌, ◌≤◌, ◌<◌, ◌+◌, ℕ, true}
+use Rattle.std.specs.Prelude.{◌≡◌, ◌≤◌, ◌<◌, ◌+◌, ◌++◌, ℕ, true, List}
 use Rattle.c5_definitions.specs.WriteNumbers.{IsFirstWrite}
+use Rattle.c5_plan.specs.Written.{row_count}
+use Rattle.c5_board.specs.declared.known.Look.{Look}
 use Rattle.c5_board.specs.Boards.{Board, Pass, names, write_count}
 use Rattle.c5_workers.specs.declared.scheduler.Scheduler.{Scheduler}
 use Rattle.c5_workers.specs.declared.schedule_turn.ScheduleTurn.{ScheduleTurn}
@@ -52,22 +54,23 @@ TakesTurn old new turns.Done = (old.scheduled ≡ write_count old.board) × (new
 TakesTurn old new turns.Rows = IsFullOfRows old × LooksUp old new (old.scheduled + 1)
 TakesTurn old new (turns.Did w) = Schedules old new w
 
--- each write is scheduled, or as many as there may be
+-- each write is scheduled, and the log has as many rows as there may be or fewer; or it has more,
+-- and the next write is the first of one row too many
 abbrev pub IsEnd : Pass → ScheduleEnd → Type 0
-IsEnd p ends.Done = (p.scheduled ≡ write_count p.board)
-    × (first_write_count (names p.board) (write_count p.board) ≤ max_rows)
-IsEnd p ends.Rows = IsFullOfRows p
-    × (max_rows < first_write_count (names p.board) (write_count p.board))
+IsEnd p ends.Done = (p.scheduled ≡ write_count p.board) × (row_count (names p.board) ≤ max_rows)
+IsEnd p ends.Rows = IsFullOfRows p × (max_rows < row_count (names p.board))
 
--- only what the scheduler role knows and the looks have changed
-abbrev pub OnlySchedules : Pass → Pass → Type 0
-OnlySchedules old new =
-    new ≡ record old {
-      written = new.written;
-      indexed = new.indexed;
-      scheduled = new.scheduled;
-      looks = new.looks;
-    }
+-- only what the scheduler role knows has changed, and looks were added at the end
+pub record OnlySchedules (old new : Pass) : Type 0 where
+  pub rest : new ≡ record old {
+    written = new.written;
+    indexed = new.indexed;
+    scheduled = new.scheduled;
+    looks = new.looks;
+  }
+  pub scheduled : old.scheduled ≤ new.scheduled
+  pub more : List Look
+  pub looks : new.looks ≡ old.looks ++ more
 
 pub record SchedulesAll (old new : Pass) (end : ScheduleEnd) : Type 0 where
   pub only : OnlySchedules old new

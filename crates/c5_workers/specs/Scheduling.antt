@@ -1,9 +1,10 @@
 -- What the scheduler keeps, and what a turn of it does.
 use Prim.Native.Nat.{zero, suc}
-use Rattle.std.specs.Prelude.{◌≡◌, ◌≤◌, ◌<◌, ◌+◌, ◌-◌, ◌==◌, ℕ, true, List, length, slice_index}
+use Rattle.std.specs.Prelude.{◌≡◌, ◌≤◌, ◌+◌, ◌-◌, ◌==◌, ℕ, true, List, length, slice_index}
 use Rattle.std.specs.Prelude.{Option, Some, None, if◌then◌else◌}
 use Rattle.c5_rows.specs.declared.writes.RowName.{RowName}
 use Rattle.c5_definitions.specs.WriteNumbers.{name_at, row_of, last_on_row, IsFirstWrite}
+use Rattle.c5_plan.specs.Written.{row_count}
 use Rattle.c5_board.specs.Boards.{Pass, names, write_count}
 use Rattle.c5_chains.specs.Paths.{FollowsPath}
 use Rattle.c5_rows.specs.Sizes.{max_rows}
@@ -73,3 +74,8 @@ pub record IsTooMany (old new : Pass) (w rows : ℕ) : Type 0 where
 abbrev pub PlacesNext : Pass → Pass → ℕ → ℕ → Option ℕ → Type 0
 PlacesNext old new w rows None = IsTooMany old new w rows
 PlacesNext old new w rows (Some row) = PlacesRow old new w rows row
+
+-- the first writes of a log are as many as its rows
+abbrev pub RowsAreFirstWrites : Type 0
+RowsAreFirstWrites = (names : List RowName)
+    → first_write_count names (length names) ≡ row_count names

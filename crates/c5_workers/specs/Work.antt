@@ -1,10 +1,11 @@
 -- When a worker fits a pass, and what its turns come to.
-use Rattle.std.specs.Prelude.{true, false, ◌≡◌, ◌≤◌, ◌<◌, ◌+◌, ◌++◌, ◌⊎◌, ℕ, List, [], ◌∷◌, length}
-use Rattle.std.specs.Prelude.{Option, Some, None, vec_capacity}
+use Rattle.std.specs.Prelude.{true, false, ◌≡◌, ◌≢◌, ◌≤◌, ◌<◌, ◌+◌, ◌++◌, ◌⊎◌, ℕ, List, [], ◌∷◌}
+use Rattle.std.specs.Prelude.{length, Option, Some, None, vec_capacity}
+use Rattle.c5_board.specs.declared.known.Look.{Look}
 use Rattle.c5_board.specs.declared.known.Look.TheVariants.{LoadScheduled}
 use Rattle.c5_board.specs.Sets.{with_number}
 use Rattle.c5_rows.specs.Numbers.{is_among}
-use Rattle.c5_board.specs.Passes.{owner_in}
+use Rattle.c5_board.specs.Passes.{owner_in, floor_of}
 use Rattle.c5_board.specs.Boards.{Pass, names, write_count, IsWorker}
 use Rattle.c5_chains.specs.declared.install.Install.{Install}
 use Rattle.c5_chains.specs.declared.install.Install.TheVariants.{Installed, PutOff}
@@ -107,3 +108,19 @@ WorksTurn old new p q Done = IsIdle old (write_count p.board) × (q ≡ p) × (n
 WorksTurn old new p q (NotYet scheduled) = IsIdle old scheduled × (old.next ≤ write_count p.board)
     × (q ≡ with_progress (with_scheduled p scheduled) old.i old.next) × (new ≡ old)
 WorksTurn old new p q (Did installed put_off) = HasWorked old new p q installed put_off
+
+-- only worker i has worked: what other workers have installed and their floors are as they were,
+-- and looks were added at the end
+pub record OnlyWorks (i : ℕ) (old new : Pass) : Type 0 where
+  pub rest : new ≡ record old {
+    installed = new.installed;
+    floors = new.floors;
+    scheduled = new.scheduled;
+    looks = new.looks;
+  }
+  pub scheduled : old.scheduled ≤ new.scheduled
+  pub installed : (w : ℕ) → owner_in old w ≢ i
+      → is_among w new.installed ≡ is_among w old.installed
+  pub floors : (j : ℕ) → IsWorker old.board.workers j → j ≢ i → floor_of new j ≡ floor_of old j
+  pub more : List Look
+  pub looks : new.looks ≡ old.looks ++ more

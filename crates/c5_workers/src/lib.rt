@@ -2,6 +2,7 @@
 //! the writes.
 #![tactic(auto)]
 
+mod finishing;
 mod retrying;
 mod schedule_turn;
 mod scheduler;
@@ -9,8 +10,12 @@ mod scheduling;
 mod work_turn;
 mod worker;
 
+pub use finishing::finish;
 pub use schedule_turn::{ScheduleEnd, ScheduleTurn};
 pub use scheduler::Scheduler;
-pub use scheduling::schedule_all;
+pub use scheduling::{first_write_law, schedule_all};
 pub use work_turn::WorkTurn;
 pub use worker::Worker;
+
+#[cfg(test)]
+mod tests;

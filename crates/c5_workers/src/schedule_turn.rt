@@ -5,9 +5,9 @@
 pub enum ScheduleTurn {
     /// Write `w` is scheduled.
     Did { w: u32 },
-    /// Nothing, as the next write would be of one row too many.
+    /// Nothing is scheduled: the next write is the first of one row too many.
     Rows,
-    /// Nothing, as each write of the log is scheduled.
+    /// Nothing is scheduled: each write of the log is already.
     Done,
 }
 

@@ -1,8 +1,8 @@
 //! The scheduler.
 
-ghost use Rattle.std.specs.Prelude.{◌≡◌, ◌<◌, IfOk};
+ghost use Rattle.std.specs.Prelude.{◌≡◌, ◌<◌, ◌+◌, ◌^◌, IfOk};
 ghost use Rattle.c5_board.specs.Boards.{names};
-ghost use Rattle.c5_workers.specs.Schedules.{FitsSchedule, FitsNew, TakesTurn};
+ghost use Rattle.c5_workers.specs.Schedules.{FitsSchedule, FitsNew, TakesTurn, OnlySchedules};
 ghost use Rattle.c5_workers.specs.Scheduling.{IsLastOfEach, IsReadyToRecord, IsNext, PlacesNext};
 ghost use Rattle.c5_workers.specs.Scheduling.{rows_with};
 
@@ -64,7 +64,7 @@ fn place_next(board: &Board<'_>, pass: &mut BoardPass, w: u32, rows: u32) -> Opt
 
 // The number of rows with that of write w.
 fn rows_with(rows: u32, w: u32, row: u32) -> u32
-    requires { rows < 4294967295 }
+    requires { rows + 1 < 2 ^ 32 }
     ensures { result ≡ rows_with rows w row }
 {
     if row == w { rows + 1 } else { rows }
@@ -93,6 +93,7 @@ impl Scheduler {
         requires fits { FitsSchedule self.old pass.old }
         ensures fits { FitsSchedule self.new pass.new }
         ensures turn { TakesTurn pass.old pass.new result }
+        ensures only { OnlySchedules pass.old pass.new }
     {
         let _place = pass.place();
         if self.scheduled == board.writes() {

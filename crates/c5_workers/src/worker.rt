@@ -1,11 +1,14 @@
 //! A worker.
 
-ghost use Rattle.std.specs.Prelude.{◌≡◌, ◌≤◌, ◌<◌, ◌↔◌, IsTrue, length, vec_capacity, IfOk};
+ghost use Rattle.std.specs.Prelude.{◌≡◌, ◌≤◌, ◌<◌, ◌+◌, ◌^◌, ◌↔◌, IsTrue, length, vec_capacity};
+ghost use Rattle.std.specs.Prelude.{IfOk};
 ghost use Rattle.c5_board.specs.Boards.{IsWorker};
 ghost use Rattle.c5_workers.specs.Tries.{Retries, least_of, with_next};
 ghost use Rattle.c5_workers.specs.Work.{IsNewWorker, FitsUnworked, IsSameWorker, FitsWorker};
 ghost use Rattle.c5_workers.specs.Work.{IsIdle, TriesNext, with_progress, WorksTurn, installed_by};
-ghost use Rattle.c5_workers.specs.Work.{put_off_by};
+ghost use Rattle.c5_workers.specs.Work.{put_off_by, OnlyWorks};
+ghost use Rattle.c5_workers.specs.Left.{TakesLeast, IsNextLeft, with_left};
+ghost use Rattle.c5_board.specs.Passes.{owner_in};
 ghost use Rattle.c5_rows.specs.Sizes.{max_put_off, max_workers};
 
 use crate::retrying::retry;
@@ -79,7 +82,7 @@ impl Worker {
     }
 
     // Stores the least number that isn't installed as progress.
-    fn store_least(&self, board: &Board<'_>, pass: &mut BoardPass)
+    pub(crate) fn store_least(&self, board: &Board<'_>, pass: &mut BoardPass)
         requires pass { pass.old.board ≡ board.now }
         requires fits { FitsWorker self.now pass.old }
         ensures fits { FitsWorker self.now pass.new }
@@ -135,6 +138,41 @@ impl Worker {
         self.put_off.truncate(kept);
     }
 
+    // Takes the least of its numbers, the first that is put off or else the next one, off them.
+    fn take_least(&mut self)
+        requires { self.old.next + self.old.workers < 2 ^ 32 }
+        ensures { TakesLeast self.old self.new }
+    {
+        if self.put_off.is_empty() {
+            self.next += self.workers;
+        } else {
+            self.put_off.remove(0);
+        }
+    }
+
+    // Installs write w, which it owns, unless it is installed. Each write below w is installed, so
+    // w isn't put off.
+    pub(crate) fn install(&mut self, board: &Board<'_>, pass: &mut BoardPass, w: u32)
+        requires pass { pass.old.board ≡ board.now }
+        requires fits { FitsWorker self.old pass.old }
+        requires next { IsNextLeft pass.old w }
+        requires owned { owner_in pass.old w ≡ self.old.i }
+        ensures fits { FitsWorker self.new pass.new }
+        ensures i { self.new.i ≡ self.old.i }
+        ensures pass { pass.new ≡ with_left pass.old w }
+    {
+        number_law();
+        let _place = pass.place();
+        let _writes = board.writes();
+        if self.least() != w as u64 {
+            return;
+        }
+        match try_install(board, pass, w) {
+            Install::Installed => self.take_least(),
+            Install::PutOff { .. } => unreachable!(),
+        }
+    }
+
     /// Tries each number that is put off, ascending, and then the next one, if fewer than 64 are
     /// put off and it is scheduled. Then the least number that isn't installed is stored as the
     /// worker's progress.
@@ -143,6 +181,7 @@ impl Worker {
         requires fits { FitsWorker self.old pass.old }
         ensures fits { FitsWorker self.new pass.new }
         ensures turn { WorksTurn self.old self.new pass.old pass.new result }
+        ensures only { OnlyWorks self.old.i pass.old pass.new }
     {
         number_law();
         let _place = pass.place();

@@ -4,7 +4,7 @@ use Rattle.c5_rows.specs.Numbers.{is_among}
 use Rattle.c5_chains.specs.declared.install.Install.TheVariants.{Installed, PutOff}
 use Rattle.c5_chains.specs.Tries.{tried, head_found}
 use Rattle.c5_workers.specs.Tries.{IsRetrying}
-use Rattle.c5_workers.proofs.TryLemmas.{retrying-begin, retry-ready, retry-installed, retry-put_off, retried}
+use Rattle.c5_workers.proofs.TryLemmas.{retry-ready, retry-installed, retry-put_off, retried}
 use Rattle.c5_workers.proofs.retrying.retry.Goals as goal
 use Rattle.c5_workers.proofs.retrying.retry.Goals.{in-Installed, in-PutOff}
 

@@ -1,4 +1,4 @@
-use Rattle.std.proofs.Common.{◌≡◌, ◌∙◌, ◌+◌, ◌≤◌, ap, sym, subst, arith}
+use Rattle.std.proofs.Common.{◌∙◌, subst, arith}
 use Rattle.c5_definitions.specs.WriteNumbers.{IsFirstWrite}
 use Rattle.c5_definitions.specs.RowIndex.{IsSlot}
 use Rattle.c5_board.specs.Boards.{Board, names}

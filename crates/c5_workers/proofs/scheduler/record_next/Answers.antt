@@ -1,5 +1,5 @@
-use Rattle.std.proofs.Common.{◌≡◌, ◌∙◌, ◌+◌, ◌-◌, ◌≤◌, ◌<◌, List, length, get_or, set, ap, sym, subst, arith, refl}
-use Rattle.c5_board.specs.Boards.{Board, Pass, names, record_of}
+use Rattle.std.proofs.Common.{◌≡◌, ◌-◌, get_or, set, sym, subst, arith, refl}
+use Rattle.c5_board.specs.Boards.{Board, names, record_of}
 use Rattle.c5_workers.specs.Scheduling.{IsLastOfEach}
 use Rattle.c5_workers.proofs.LastRows.{record-kept, kept-with, ready_write, ready-row}
 use Rattle.c5_workers.proofs.scheduler.record_next.Goals as goal

@@ -1,4 +1,4 @@
-use Rattle.std.proofs.Common.{◌≡◌, ◌≤◌, ◌-◌}
+use Rattle.std.proofs.Common.{◌≡◌, ◌-◌}
 use Rattle.c5_board.specs.Boards.{write_count}
 use Rattle.c5_workers.specs.Schedules.{FitsSchedule, OnlySchedules}
 use Rattle.c5_workers.proofs.scheduling.schedule_all.Given as goal

@@ -1,6 +1,6 @@
-use Rattle.std.proofs.Common.{◌≡◌, ◌∙◌, ap, sym, refl}
+use Rattle.std.proofs.Common.{◌∙◌, ap, sym, refl}
 use Rattle.std.specs.Prelude.{replicate}
-use Rattle.c5_board.specs.Boards.{Board, write_count}
+use Rattle.c5_board.specs.Boards.{write_count}
 use Rattle.c5_workers.proofs.Turned.{fits-new}
 use Rattle.c5_workers.proofs.scheduler.Scheduler.new.Goals as goal
 

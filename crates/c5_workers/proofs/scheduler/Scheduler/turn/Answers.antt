@@ -1,7 +1,7 @@
-use Rattle.std.proofs.Common.{◌≡◌, ◌∙◌, ◌+◌, ◌≤◌, List, ap, sym, subst, refl, arith}
+use Rattle.std.proofs.Common.{◌∙◌, ◌+◌, ap, sym, subst, refl, arith}
 use Rattle.std.proofs.lemmas.List.{with_items_is}
-use Rattle.c5_board.specs.Boards.{Board, Pass, names, write_count}
-use Rattle.c5_workers.specs.Scheduling.{IsLastOfEach, IsNext}
+use Rattle.c5_board.specs.Boards.{Board, names, write_count}
+use Rattle.c5_workers.specs.Scheduling.{IsLastOfEach}
 use Rattle.c5_workers.proofs.Turned.{next-of, ready-of, scheduled-next, fits-next}
 use Rattle.c5_workers.proofs.scheduler.Scheduler.turn.Goals as goal
 

@@ -1,6 +1,6 @@
-use Rattle.std.proofs.Common.{◌≡◌, ◌∙◌, ◌≤◌, List, ℕ, length, take, length-take, ap, sym, subst, refl, arith}
+use Rattle.std.proofs.Common.{◌≡◌, ◌∙◌, List, ℕ, length, take, length-take, ap, sym, subst, refl, arith}
 use Rattle.std.proofs.lemmas.List.{with_items_is}
-use Rattle.c5_workers.specs.Tries.{FitsList, Retries}
+use Rattle.c5_workers.specs.Tries.{FitsList}
 use Rattle.c5_workers.proofs.WorkLemmas.{worker-with, tries-keep}
 use Rattle.c5_workers.proofs.worker.Worker.retry_all.Goals as goal
 

@@ -1,4 +1,4 @@
-use Rattle.std.proofs.Common.{◌≡◌, ◌≤◌, ℕ, sym, subst, arith}
+use Rattle.std.proofs.Common.{sym, subst, arith}
 use Rattle.c5_board.specs.Passes.{IsOutstanding}
 use Rattle.c5_workers.proofs.WorkLemmas.{outstanding}
 use Rattle.c5_workers.proofs.worker.Worker.store_least.Goals as goal

@@ -1,5 +1,5 @@
-use Rattle.std.proofs.Common.{◌≡◌, ◌∙◌, ◌+◌, ◌≤◌, ◌<◌, ap, sym, subst, refl, arith}
-use Rattle.c5_board.specs.Boards.{Board, Pass, names, write_count}
+use Rattle.std.proofs.Common.{◌≡◌, ap, sym, subst, refl, arith}
+use Rattle.c5_board.specs.Boards.{Board, names, write_count}
 use Rattle.c5_chains.specs.Tries.{tried, head_found}
 use Rattle.c5_workers.proofs.WorkLemmas.{worker-next}
 use Rattle.c5_workers.proofs.worker.Worker.try_next.Goals as goal

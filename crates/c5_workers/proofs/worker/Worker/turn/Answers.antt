@@ -1,8 +1,7 @@
-use Rattle.std.proofs.Common.{◌≡◌, ◌∙◌, ◌+◌, ◌-◌, ◌≤◌, ℕ, List, length, ap, sym, subst, refl, arith, true≢false}
+use Rattle.std.proofs.Common.{◌∙◌, sym, subst, arith, true≢false}
 use Rattle.c5_board.specs.Boards.{Pass}
 use Rattle.c5_workers.specs.Tries.{Retries}
-use Rattle.c5_workers.specs.Work.{IsIdle, with_scheduled}
-use Rattle.c5_workers.proofs.WorkLemmas.{worker-later}
+use Rattle.c5_workers.proofs.OnlyTurns.{only-worked}
 use Rattle.c5_workers.proofs.worker.Worker.turn.Goals as goal
 
 pub returns-clause-turn : goal.returns-clause-turn
@@ -21,3 +20,8 @@ returns-clause-turn c = record {
   count = omega (arith, c.len-waiting.ensures, c.len.ensures, c.args.self.now.put_off.ok.0, c.retry_all.new.self.put_off.ok.0, c.retry_all.ensures.few, c.installed_by.ensures);
   new_one = c.put_off_by.ensures;
 }
+
+pub returns-clause-only : goal.returns-clause-only
+returns-clause-only c =
+    only-worked c.args.self.now c.retry_all.new.self _ c.args.pass.now c.load_scheduled-scheduled.new.pass c.retry_all.new.pass _ _ _ _ _ _ c.requires.fits c.load_scheduled-scheduled.ensures.least c.load_scheduled-scheduled.ensures.pass
+    c.retry_all.ensures.retries c.retry_all.ensures.fits c.retry_all.ensures.same.i c.try_next-result.ensures.tries c.store_least-2.ensures.pass

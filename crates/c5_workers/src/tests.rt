@@ -1,0 +1,255 @@
+ghost use Rattle.std.specs.Prelude.{◌≡◌, ◌≤◌, [], ◌∷◌, true, length, IfOk};
+ghost use Rattle.c5_board.specs.Boards.{write_count};
+ghost use Rattle.c5_workers.specs.Work.{FitsWorker};
+
+use super::*;
+use c5_board::{Board, BoardPass};
+use c5_chains::{At, find, value_at};
+use c5_frames::{Decoder, LogBuffer};
+use c5_plan::{Plan, plan};
+use c5_rows::{Cell, Key, NoMemory, RowName};
+use c5_snapshot::advance;
+use std::alloc::Global;
+use std::test::Fail;
+use std::thread::{join, yield_now};
+
+// The table `acct` of one Int column, and three transactions that put 1, 2 and 3 into its row `a`.
+const ONE_ROW: &[u8] = b"C5L1\x01\x04acct\x01\x01\
+    \0\0\0\x0dW\0\x01a\0\0\0\0\0\0\0\0\x01\
+    \0\0\0\x11C\0\0\0\0\0\0\0\0\0\0\0\x01\0\0\0\x01\
+    \0\0\0\x0dW\0\x01a\0\0\0\0\0\0\0\0\x02\
+    \0\0\0\x11C\0\0\0\x01\0\0\0\0\0\0\0\x02\0\0\0\x01\
+    \0\0\0\x0dW\0\x01a\0\0\0\0\0\0\0\0\x03\
+    \0\0\0\x11C\0\0\0\x02\0\0\0\0\0\0\0\x03\0\0\0\x01\
+    \0\0\0\x05E\0\0\0\x03";
+
+// The same table, and two transactions that put 1 into `a` and 2 into `b`.
+const TWO_ROWS: &[u8] = b"C5L1\x01\x04acct\x01\x01\
+    \0\0\0\x0dW\0\x01a\0\0\0\0\0\0\0\0\x01\
+    \0\0\0\x11C\0\0\0\0\0\0\0\0\0\0\0\x01\0\0\0\x01\
+    \0\0\0\x0dW\0\x01b\0\0\0\0\0\0\0\0\x02\
+    \0\0\0\x11C\0\0\0\x01\0\0\0\0\0\0\0\x02\0\0\0\x01\
+    \0\0\0\x05E\0\0\0\x02";
+
+fn log(alloc: Global, bytes: &[u8]) -> Result<LogBuffer, Fail>
+    requires { length bytes.now ≤ 1000 }
+{
+    let mut decoder = Decoder::new(alloc);
+    decoder.feed(bytes).ok().ok_or("fed")?;
+    Ok(decoder.finish().ok().ok_or("a log")?)
+}
+
+fn row_named(key: &[u8]) -> Result<RowName, Fail> {
+    Ok(RowName {
+        table: 0,
+        key: Key::new(key)?,
+    })
+}
+
+// A board of two workers with a log that is wholly scheduled.
+fn scheduled<'p>(alloc: Global, plan: &'p Plan<'p>) -> Result<(Board<'p>, BoardPass), NoMemory>
+    ensures board { IfOk result (λ made. made.1.board ≡ made.0) }
+    ensures workers { IfOk result (λ made. made.0.workers ≡ 2) }
+    ensures roles { IfOk result (λ made. made.1.roles ≡ 1 ∷ 2 ∷ []) }
+    ensures installed { IfOk result (λ made. made.1.installed ≡ []) }
+    ensures snapshot { IfOk result (λ made. made.1.snapshot ≡ true) }
+    ensures scheduled { IfOk result (λ made. made.1.scheduled ≡ write_count made.0) }
+{
+    let (board, mut pass) = Board::new(alloc, plan, 2)?;
+    let mut scheduler = Scheduler::new(alloc, &board)?;
+    match schedule_all(&board, &mut pass, &mut scheduler) {
+        ScheduleEnd::Done => Ok((board, pass)),
+        ScheduleEnd::Rows => Err(NoMemory),
+    }
+}
+
+// The passes of two workers, with these workers, and what is left.
+#[derive(Drop)]
+struct Parts {
+    rest: BoardPass,
+    first: BoardPass,
+    one: Worker,
+    second: BoardPass,
+    two: Worker,
+}
+
+fn split(alloc: Global, board: &Board<'_>, pass: BoardPass) -> Result<Parts, NoMemory>
+    requires pass { pass.board ≡ board.now }
+    requires workers { board.now.workers ≡ 2 }
+    requires roles { pass.roles ≡ 1 ∷ 2 ∷ [] }
+    requires installed { pass.installed ≡ [] }
+    ensures first { IfOk result (λ parts. parts.first.board ≡ board.now) }
+    ensures one { IfOk result (λ parts. FitsWorker parts.one parts.first) }
+    ensures second { IfOk result (λ parts. parts.second.board ≡ board.now) }
+    ensures two { IfOk result (λ parts. FitsWorker parts.two parts.second) }
+    ensures rest { IfOk result (λ parts. parts.rest.board ≡ board.now) }
+    ensures snapshot { IfOk result (λ parts. parts.rest.snapshot ≡ pass.snapshot) }
+{
+    let one = Worker::new(alloc, 1, 2)?;
+    let two = Worker::new(alloc, 2, 2)?;
+    let (rest, first) = board.split_worker(pass, 1);
+    let (rest, second) = board.split_worker(rest, 2);
+    Ok(Parts {
+        rest,
+        first,
+        one,
+        second,
+        two,
+    })
+}
+
+fn turn(board: &Board<'_>, pass: &mut BoardPass, worker: &mut Worker) -> WorkTurn
+    requires pass { pass.old.board ≡ board.now }
+    requires fits { FitsWorker worker.old pass.old }
+    ensures pass { pass.new.board ≡ board.now }
+    ensures fits { FitsWorker worker.new pass.new }
+{
+    worker.turn(board, pass)
+}
+
+// All writes are installed by a pass that has installed none.
+fn finished(alloc: Global, board: &Board<'_>, mut pass: BoardPass) -> Result<BoardPass, NoMemory>
+    requires pass { pass.board ≡ board.now }
+    requires workers { board.now.workers ≡ 2 }
+    requires roles { pass.roles ≡ 1 ∷ 2 ∷ [] }
+    requires installed { pass.installed ≡ [] }
+    requires scheduled { pass.scheduled ≡ write_count board.now }
+    ensures board { IfOk result (λ after. after.board ≡ board.now) }
+    ensures snapshot { IfOk result (λ after. after.snapshot ≡ pass.snapshot) }
+{
+    let one = Worker::new(alloc, 1, 2)?;
+    let two = Worker::new(alloc, 2, 2)?;
+    let mut workers = [one, two];
+    finish(board, &mut pass, workers.as_mut_slice());
+    Ok(pass)
+}
+
+// The cell of the one column of a row after so many transactions, if the row is there.
+fn cell_at(board: &Board<'_>, pass: &mut BoardPass, name: &RowName, place: u32) -> Option<Cell>
+    requires pass { pass.old.board ≡ board.now }
+    ensures pass { pass.new.board ≡ board.now }
+{
+    let row = find(board, pass, name)?;
+    if place > pass.place() {
+        return None;
+    }
+    match value_at(board, pass, row, place) {
+        At::Put(row) => row.to_row().cells().first().copied(),
+        _ => None,
+    }
+}
+
+#[test]
+fn a_worker_tries_again_what_it_put_off(rt: HostRuntime) -> Result<(), Fail> {
+    let log = log(rt.alloc(), ONE_ROW)?;
+    let plan = plan(&log).ok().ok_or("a plan")?;
+    let (board, pass) = scheduled(rt.alloc(), &plan)?;
+    let Parts {
+        mut rest,
+        mut first,
+        mut one,
+        mut second,
+        mut two,
+    } = split(rt.alloc(), &board, pass)?;
+    let none = WorkTurn::Did {
+        installed: 0,
+        put_off: 1,
+    };
+    let one_more = WorkTurn::Did {
+        installed: 1,
+        put_off: 0,
+    };
+    assert!(rt; turn(&board, &mut second, &mut two) == none);
+    assert!(rt; turn(&board, &mut first, &mut one) == one_more);
+    assert!(rt; turn(&board, &mut second, &mut two) == one_more);
+    assert!(rt; turn(&board, &mut second, &mut two) == WorkTurn::Done);
+    let advanced = advance(&board, &mut rest);
+    assert!(rt; advanced.place == 2 && advanced.least == 3);
+    Ok(())
+}
+
+#[test]
+fn a_worker_waits_for_the_scheduler(rt: HostRuntime) -> Result<(), Fail> {
+    let log = log(rt.alloc(), ONE_ROW)?;
+    let plan = plan(&log).ok().ok_or("a plan")?;
+    let (board, pass) = Board::new(rt.alloc(), &plan, 2)?;
+    let mut parts = split(rt.alloc(), &board, pass)?;
+    let waits = WorkTurn::NotYet { scheduled: 0 };
+    assert!(rt; turn(&board, &mut parts.first, &mut parts.one) == waits);
+    Ok(())
+}
+
+#[test]
+fn a_row_is_read_at_its_place(rt: HostRuntime) -> Result<(), Fail> {
+    let log = log(rt.alloc(), ONE_ROW)?;
+    let plan = plan(&log).ok().ok_or("a plan")?;
+    let (board, pass) = scheduled(rt.alloc(), &plan)?;
+    let mut pass = finished(rt.alloc(), &board, pass)?;
+    let name = row_named(b"a")?;
+    let advanced = advance(&board, &mut pass);
+    assert!(rt; advanced.place == 3 && advanced.least == 4);
+    assert!(rt; cell_at(&board, &mut pass, &name, 0).is_none());
+    assert!(rt; cell_at(&board, &mut pass, &name, 2) == Some(Cell::Int(2)));
+    Ok(())
+}
+
+#[test]
+fn a_row_is_found_once_it_is_scheduled(rt: HostRuntime) -> Result<(), Fail> {
+    let log = log(rt.alloc(), TWO_ROWS)?;
+    let plan = plan(&log).ok().ok_or("a plan")?;
+    let name = row_named(b"b")?;
+    let (board, mut pass) = Board::new(rt.alloc(), &plan, 1)?;
+    assert!(rt; find(&board, &mut pass, &name).is_none());
+    let (board, mut pass) = scheduled(rt.alloc(), &plan)?;
+    assert!(rt; find(&board, &mut pass, &name) == Some(2));
+    let other = row_named(b"c")?;
+    assert!(rt; find(&board, &mut pass, &other).is_none());
+    Ok(())
+}
+
+// Makes turns until the worker is done, or gives up after many of them. How many writes it
+// installed.
+fn work(board: &Board<'_>, mut pass: BoardPass, mut worker: Worker) -> u32
+    requires pass { pass.board ≡ board.now }
+    requires fits { FitsWorker worker pass }
+{
+    let mut all = 0u32;
+    for _ in 0..1_000_000u32 {
+        match turn(board, &mut pass, &mut worker) {
+            WorkTurn::Did { installed, .. } => all = all.saturating_add(installed),
+            WorkTurn::NotYet { .. } => {}
+            WorkTurn::Done => break,
+        }
+        yield_now();
+    }
+    all
+}
+
+#[test]
+fn two_threads_install_a_row(rt: HostRuntime) -> Result<(), Fail> {
+    let log = log(rt.alloc(), ONE_ROW)?;
+    let plan = plan(&log).ok().ok_or("a plan")?;
+    let (board, pass) = scheduled(rt.alloc(), &plan)?;
+    let Parts {
+        mut rest,
+        first,
+        one,
+        second,
+        two,
+    } = split(rt.alloc(), &board, pass)?;
+    let shared = &board;
+    let (a, b) = join(
+        &rt,
+        move || -> u32
+            requires pass { first.board ≡ shared.now }
+            requires fits { FitsWorker one first }
+        { work(shared, first, one) },
+        move || -> u32
+            requires pass { second.board ≡ shared.now }
+            requires fits { FitsWorker two second }
+        { work(shared, second, two) },
+    );
+    assert!(rt; a == 2 && b == 1);
+    assert!(rt; advance(&board, &mut rest).place == 3);
+    Ok(())
+}
