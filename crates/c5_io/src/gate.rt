@@ -2,6 +2,7 @@
 #[derive(Clone, Copy, Debug, PartialEq, Eq)]
 pub enum Role {
     Primary(u32),
+    Scheduler,
     Worker(u32),
     Snapshot,
     Session(u32),

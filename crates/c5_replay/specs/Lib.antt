@@ -1,0 +1,4 @@
+pub mod Answered
+pub mod Parts
+pub mod Replays
+pub mod Joins
