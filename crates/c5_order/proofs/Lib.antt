@@ -15,3 +15,4 @@ pub mod Conflicts
 pub mod CopyLemmas
 pub mod LogLemmas
 pub mod NewBook
+pub mod Later

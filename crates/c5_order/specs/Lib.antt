@@ -1,3 +1,4 @@
 pub mod Marks
 pub mod Book
 pub mod Answers
+pub mod Transactions

@@ -4,6 +4,8 @@ ghost use Rattle.std.specs.Prelude.{◌≡◌, List};
 ghost use Rattle.c5_definitions.specs.declared.history.Entry.{Entry};
 ghost use Rattle.c5_definitions.specs.declared.history.OrderBase.{OrderBase};
 ghost use Rattle.c5_definitions.specs.OrderLog.{IsOrderHistory, IsStampOrderRun, committed};
+ghost use Rattle.c5_order.specs.Transactions.{BeginsUnread, ReadAdds, OthersKeep, EndsOne};
+ghost use Rattle.c5_order.specs.Transactions.{LastIsFree, CommitCounts, CommitsStay};
 
 use c5_eval::evaluation_law;
 
@@ -15,3 +17,20 @@ pub fn order_law()
 {
     evaluation_law();
 }
+
+/// What more entries leave of the transactions of a history that timestamp ordering allows.
+///
+/// - A transaction that begins is open and has read nothing; a read adds its answer.
+/// - Entries of other callers leave a transaction open, and its answers as they were.
+/// - A commit or a cancel ends its own transaction alone.
+/// - The greatest stamp has no conflict.
+/// - A body whose transaction commits is committed, and stays so.
+pub fn transaction_law()
+    ensures begins { BeginsUnread }
+    ensures reads { ReadAdds }
+    ensures others { OthersKeep }
+    ensures ends { EndsOne }
+    ensures last { LastIsFree }
+    ensures commit { CommitCounts }
+    ensures stay { CommitsStay }
+{}

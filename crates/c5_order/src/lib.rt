@@ -13,5 +13,5 @@ mod order;
 mod reading;
 
 pub use answers::{BeginFault, Decision};
-pub use law::order_law;
+pub use law::{order_law, transaction_law};
 pub use order::{Order, OrderState};

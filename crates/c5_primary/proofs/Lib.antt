@@ -7,3 +7,4 @@ pub mod InOrderLaws
 pub mod LatestLaws
 pub mod LogLength
 pub mod SerialLaws
+pub mod TurnLemmas

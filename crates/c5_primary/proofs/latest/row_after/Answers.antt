@@ -18,7 +18,7 @@ returns-in-Some c =
     let txn = get_or txns place c.index-txns-place.result in
     let left = subst (IsLeftAt c.args.start.now txns name) (sym c.in-Some.ensures.value) (c.requires name) in
     let at : slice_get txns place ≡ Some txn = slice_get-get_or txns place c.index-txns-place.result (place-within c.args.start.now txns name place left) in
-    c.row_left.ensures ∙ ap row_kept c.find.ensures ∙ row-there c.args.start.now txns name place txn left at
+    c.row_kept.ensures ∙ ap row_kept c.find.ensures ∙ row-there c.args.start.now txns name place txn left at
 
 pub returns-in-None : goal.returns-in-None
 returns-in-None c =

@@ -1,0 +1,5 @@
+use Rattle.c5_primary.specs.Running.{IsSameCaller}
+use Rattle.c5_primary.proofs.running.begin.Given as goal
+
+abbrev pub invariant-loop : goal.invariant-loop
+invariant-loop g l = IsSameCaller l.initial.runner.session l.runner.session
