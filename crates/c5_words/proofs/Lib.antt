@@ -1,0 +1,5 @@
+mod OneKind
+mod Passing
+mod ProgramLemmas
+mod Answering
+mod Reading

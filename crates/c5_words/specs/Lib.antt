@@ -1,0 +1,4 @@
+pub mod Names
+pub mod Program
+pub mod Meaning
+pub mod Texts

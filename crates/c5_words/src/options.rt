@@ -1,0 +1,10 @@
+//! The numbers that a run is given.
+
+/// The numbers that a run is given by its options. A command ignores those that it doesn't use.
+#[derive(Clone, Copy)]
+pub struct Options {
+    /// Threads, from 1 to `MAX_THREADS`; 1 if not given.
+    pub threads: u32,
+    /// Workers of the replay, from 1 to `MAX_WORKERS`; 1 if not given.
+    pub workers: u32,
+}
