@@ -5,7 +5,7 @@ use Rattle.c5_driver.specs.declared.status.Status.TheVariants as statuses
 
 -- the line for a run whose output doesn't say what went wrong, without its end; none for any other
 abbrev pub advice_of : Status → List ℕ
-advice_of statuses.BadWords = codes "c5: usage: c5 apply | primary, with input on standard input"
+advice_of statuses.BadWords = codes "c5: bad words; try c5 --help"
 advice_of statuses.ReadFault = codes "c5: reading standard input failed; nothing was written"
 advice_of statuses.WriteFault =
     codes "c5: writing standard output failed; what was written is not whole"

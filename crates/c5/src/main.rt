@@ -11,6 +11,7 @@ use std::alloc::Global;
 use std::io::ErrorKind;
 use std::process::ExitCode;
 use std::rt::Env;
+use std::thread::Threads;
 use std::{env, io};
 
 // The words after the program's name.
@@ -23,7 +24,7 @@ fn advice(status: Status) -> &'static str
     ensures { result.now ≡ advice_of status }
 {
     match status {
-        Status::BadWords => "c5: usage: c5 apply | primary, with input on standard input",
+        Status::BadWords => "c5: bad words; try c5 --help",
         Status::ReadFault => "c5: reading standard input failed; nothing was written",
         Status::WriteFault => "c5: writing standard output failed; what was written is not whole",
         Status::NoMemory => "c5: out of memory; nothing was written",
@@ -34,10 +35,10 @@ fn advice(status: Status) -> &'static str
 fn main(rt: HostRuntime) -> ExitCode {
     let alloc = rt.alloc();
     let status = match words(&rt, alloc) {
-        Ok(words) => run(&rt, alloc, &words),
+        Ok(words) => run(&rt, &rt, alloc, &words),
         Err(error) if error.kind() == ErrorKind::OutOfMemory => Status::NoMemory,
         // Words that are no text are no command.
-        Err(_) => run(&rt, alloc, &[]),
+        Err(_) => run(&rt, &rt, alloc, &[]),
     };
     let advice = advice(status);
     if !advice.is_empty() {
@@ -47,8 +48,8 @@ fn main(rt: HostRuntime) -> ExitCode {
     ExitCode::from(status.number())
 }
 
-fn run(rt: &HostRuntime, alloc: Global, words: &[String]) -> Status {
-    let mut source = StdSource::new(rt.stdin());
-    let mut sink = StdSink::new(rt.stdout());
-    c5(alloc, words, &mut source, &mut sink)
+fn run<R: Threads + Sync>(rt: &R, host: &HostRuntime, alloc: Global, words: &[String]) -> Status {
+    let mut source = StdSource::new(host.stdin());
+    let mut sink = StdSink::new(host.stdout());
+    c5(rt, alloc, words, &mut source, &mut sink)
 }

@@ -1,7 +1,11 @@
 pub mod Prefixes
-pub mod OneWord
 pub mod Feeding
 pub mod InputRefusals
-pub mod LogRowLemmas
+pub mod LastWriteLemmas
 pub mod Passed
+pub mod SameTables
+pub mod Fronts
+pub mod Replays
 pub mod RunLogs
+pub mod Headlines
+mod Unread

@@ -1,83 +1,112 @@
 //! The command `apply`: the rows after a whole log.
 
-ghost use Rattle.std.specs.Prelude.{◌≡◌, IfOk, OnOk};
+ghost use Rattle.std.specs.Prelude.{◌≡◌, ◌≤◌, ◌++◌, None, length, IfOk, IfErr, OnOk};
 ghost use Rattle.std.specs.FinMap.{empty};
+ghost use Rattle.std.specs.List.{All};
 ghost use Rattle.c5_rows.specs.Order.{row_name_cmp};
-ghost use Rattle.c5_rows.specs.State.{after_change, after_writes, after_txns, rows_of};
+ghost use Rattle.c5_rows.specs.State.{after_txns, rows_of};
 ghost use Rattle.c5_definitions.specs.Texts.{rows_text};
+ghost use Rattle.c5_definitions.specs.WriteNumbers.{names_in};
 ghost use Rattle.c5_frames.specs.Index.{writes_of};
-ghost use Rattle.c5_driver.specs.Meanings.{MakesText};
+ghost use Rattle.c5_plan.specs.Written.{AreWrittenRows};
+ghost use Rattle.c5_driver.specs.Inputs.{IsRefusedBy};
+ghost use Rattle.c5_driver.specs.LastWrites.{entry_of_written, entries_left, HasWrite};
+ghost use Rattle.c5_driver.specs.Meanings.{IsRowsAfter, log_refusal, MakesText};
 ghost use Rattle.c5_driver.specs.Uses.{source_use};
 
-use crate::command::Command;
-use crate::decoding::read_log;
+use crate::command::input_limit;
+use crate::decoding::{fed_whole, log_in};
+use crate::limits::rows_within;
 use crate::refusal::Refusal;
-use c5_frames::{LogBuffer, RowRef, WriteRef};
+use c5_frames::{Decoder, LogBuffer};
 use c5_io::Source;
-use c5_rows::{NoMemory, RowEntry, RowMap, Schema};
+use c5_plan::WrittenRow;
+use c5_rows::{NoMemory, RowEntry, Schema};
 use c5_text::rows_text;
+use c5_words::Command;
 use std::alloc::Global;
 
-// Makes the change of a write. A row is kept as a reference to its bytes in the log: no cell is
-// copied.
-fn change<'a>(rows: &mut RowMap<RowRef<'a>>, write: &WriteRef<'a>) -> Result<(), NoMemory>
-    ensures { OnOk result (rows.new ≡ after_change write.now.name write.now.change rows.old) }
+// Adds the row that its last write leaves, if that is a put.
+fn push_left(
+    entries: &mut Vec<RowEntry>,
+    log: &LogBuffer,
+    written: &WrittenRow,
+) -> Result<(), NoMemory>
+    requires { HasWrite (writes_of log.now.txns) written.now }
+    ensures { OnOk result (entries.new.items
+        ≡ entries.old.items ++ entry_of_written (writes_of log.now.txns) written.now) }
 {
-    match write.row() {
-        Some(row) => rows.put(&write.name(), row),
-        None => {
-            rows.remove(&write.name());
-            Ok(())
-        }
-    }
-}
-
-// Applies all writes of the log, one after the other.
-fn change_each<'a>(rows: &mut RowMap<RowRef<'a>>, log: &'a LogBuffer) -> Result<(), NoMemory>
-    ensures { OnOk result (rows.new ≡ after_writes (writes_of log.now.txns) rows.old) }
-{
-    for before in 0..log.writes() {
-        change(rows, &log.write(before + 1))?;
+    match log.write(written.last).row() {
+        Some(row) => entries.push(RowEntry {
+            name: written.name,
+            row: row.to_row(),
+        })?,
+        None => {}
     }
     Ok(())
 }
 
-// The rows after all transactions, from no rows.
-fn rows_after<'a>(alloc: Global, log: &'a LogBuffer) -> Result<RowMap<RowRef<'a>>, NoMemory>
-    ensures { IfOk result (λ rows. rows ≡ after_txns log.now.txns (empty {R = row_name_cmp})) }
+// The rows that the last writes leave.
+fn entries_left(
+    alloc: Global,
+    log: &LogBuffer,
+    rows: &[WrittenRow],
+) -> Result<Vec<RowEntry>, NoMemory>
+    requires { All (HasWrite (writes_of log.now.txns)) rows.now }
+    ensures { IfOk result
+        (λ entries. entries.items ≡ entries_left (writes_of log.now.txns) rows.now) }
 {
-    let mut rows = RowMap::new(alloc);
-    change_each(&mut rows, log)?;
-    Ok(rows)
+    let mut entries = Vec::new(alloc);
+    for row in rows {
+        push_left(&mut entries, log, row)?;
+    }
+    Ok(entries)
 }
 
 // The schema of a log and the rows after it. The log is dropped before they are printed, so that it
 // and the text aren't in memory at once.
-fn entries_after(alloc: Global, log: LogBuffer) -> Result<(Schema, Vec<RowEntry>), NoMemory>
+fn entries_after(
+    alloc: Global,
+    log: LogBuffer,
+    rows: &[WrittenRow],
+) -> Result<(Schema, Vec<RowEntry>), NoMemory>
+    requires { AreWrittenRows rows.now (names_in log.txns) }
     ensures schema { IfOk result (λ r. r.0 ≡ log.tables) }
     ensures entries { IfOk result
         (λ r. r.1.items ≡ rows_of (after_txns log.txns (empty {R = row_name_cmp}))) }
 {
     let schema = *log.schema();
-    let entries = rows_after(alloc, &log)?.list(alloc)?;
+    let entries = entries_left(alloc, &log, rows)?;
     Ok((schema, entries))
 }
 
-fn text_after(alloc: Global, log: LogBuffer) -> Result<Vec<u8>, NoMemory>
+fn text_after(alloc: Global, log: LogBuffer, rows: &[WrittenRow]) -> Result<Vec<u8>, NoMemory>
+    requires { AreWrittenRows rows.now (names_in log.txns) }
     ensures { IfOk result (λ text.
         text.items ≡ rows_text log.tables (after_txns log.txns (empty {R = row_name_cmp}))) }
 {
-    let (schema, entries) = entries_after(alloc, log)?;
+    let (schema, entries) = entries_after(alloc, log, rows)?;
     rows_text(alloc, &schema, &entries)
+}
+
+// The text of the rows after the log that was fed, or why there is none.
+fn text_of_log(alloc: Global, decoder: Decoder) -> Result<Vec<u8>, Refusal>
+    ensures text { IfOk result (λ text. IsRowsAfter decoder text.items) }
+    ensures accepted { OnOk result (log_refusal decoder ≡ None) }
+    ensures refused { IfErr result (λ refusal. IsRefusedBy (log_refusal decoder) refusal) }
+{
+    let log = log_in(decoder)?;
+    let rows = rows_within(alloc, &log)?;
+    match text_after(alloc, log, &rows) {
+        Ok(text) => Ok(text),
+        Err(NoMemory) => Err(Refusal::NoMemory),
+    }
 }
 
 /// The text of the rows after the log that the source gives, or why there is none.
 pub fn apply<S: Source>(alloc: Global, source: &mut S) -> Result<Vec<u8>, Refusal>
     ensures { MakesText Command.Apply (source_use S.left S.faults source.old source.new) result }
 {
-    let log = read_log(alloc, source, Command::Apply.input_limit())?;
-    match text_after(alloc, log) {
-        Ok(text) => Ok(text),
-        Err(NoMemory) => Err(Refusal::NoMemory),
-    }
+    let decoder = fed_whole(alloc, source, input_limit(Command::Apply))?;
+    text_of_log(alloc, decoder)
 }

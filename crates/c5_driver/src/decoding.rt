@@ -1,14 +1,15 @@
 //! A log that is read from a source.
 
 ghost use Rattle.std.specs.Prelude.{◌≡◌, ◌≤◌, ◌<◌, ◌+◌, ◌-◌, ◌++◌, [], length, take, true, false};
-ghost use Rattle.std.specs.Prelude.{IfOk, IfErr, OnOk, OnErr};
+ghost use Rattle.std.specs.Prelude.{Ok, IfOk, IfErr, OnOk, OnErr};
 ghost use Rattle.std.specs.Io.KnownBytes.{Consumes, IsAtEnd, Keeps};
 ghost use Rattle.c5_rows.specs.Sizes.{max_log_bytes};
 ghost use Rattle.c5_rows.specs.Counts.{HasCause};
 ghost use Rattle.c5_definitions.specs.Lawful.{Spells};
 ghost use Rattle.c5_driver.specs.Feeding.{FeedsSource};
 ghost use Rattle.c5_driver.specs.Inputs.{ReadsInput, Refuses, none_refused};
-ghost use Rattle.c5_driver.specs.Meanings.{log_refusal};
+ghost use Rattle.c5_definitions.specs.Items.{log_of};
+ghost use Rattle.c5_driver.specs.Meanings.{IsFaultOf};
 ghost use Rattle.c5_driver.specs.Uses.{source_use};
 
 use crate::refusal::Refusal;
@@ -100,8 +101,8 @@ fn feed_all<S: Source>(
     }
 }
 
-// A decoder that was fed all that the source had left.
-fn fed_whole<S: Source>(alloc: Global, source: &mut S, limit: usize) -> Result<Decoder, Refusal>
+/// A decoder that was fed all that the source had left, up to `limit` bytes.
+pub fn fed_whole<S: Source>(alloc: Global, source: &mut S, limit: usize) -> Result<Decoder, Refusal>
     requires { limit ≤ max_log_bytes }
     ensures { ReadsInput limit none_refused (λ input decoder. decoder ≡ input)
         (source_use S.left S.faults source.old source.new) result }
@@ -115,17 +116,24 @@ fn fed_whole<S: Source>(alloc: Global, source: &mut S, limit: usize) -> Result<D
     Ok(decoder)
 }
 
-/// The log that the source gives, read to its end, up to `limit` bytes; or its first fault.
-pub fn read_log<S: Source>(
-    alloc: Global,
-    source: &mut S,
-    limit: usize,
-) -> Result<LogBuffer, Refusal>
-    requires { limit ≤ max_log_bytes }
-    ensures { ReadsInput limit log_refusal (λ input log. Spells input log.tables log.txns)
-        (source_use S.left S.faults source.old source.new) result }
+/// A decoder that was fed these bytes.
+pub fn fed(alloc: Global, bytes: &[u8]) -> Result<Decoder, Refusal>
+    requires { length bytes.now ≤ max_log_bytes }
+    ensures ok { IfOk result (λ decoder. decoder ≡ bytes.now) }
+    ensures err { IfErr result (λ refusal. refusal ≡ Refusal.NoMemory) }
 {
-    let decoder = fed_whole(alloc, source, limit)?;
+    let mut decoder = Decoder::new(alloc);
+    feed(&mut decoder, bytes)?;
+    Ok(decoder)
+}
+
+/// The log that was fed, or its first fault.
+pub fn log_in(decoder: Decoder) -> Result<LogBuffer, Refusal>
+    ensures read { IfOk result (λ log.
+        log_of decoder ≡ Ok (record { tables = log.tables; txns = log.txns })) }
+    ensures spelled { IfOk result (λ log. Spells decoder log.tables log.txns) }
+    ensures refused { IfErr result (λ refusal. IsFaultOf decoder refusal) }
+{
     match decoder.finish() {
         Ok(log) => Ok(log),
         Err(fault) => Err(Refusal::BadLog(fault)),

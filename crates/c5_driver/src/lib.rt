@@ -2,16 +2,21 @@
 #![tactic(auto)]
 
 mod apply;
+mod backup;
+mod clone;
 mod command;
 mod decoding;
+mod limits;
+mod logs;
 mod primary;
 mod printing;
 mod reading;
 mod refusal;
+mod replaying;
 mod run;
+mod scripts;
 mod status;
 
-pub use command::Command;
 pub use refusal::Refusal;
 pub use run::c5;
 pub use status::Status;

@@ -2,6 +2,7 @@ use crate::{Status, c5};
 use c5_io::{MemorySink, MemorySource};
 use std::alloc::Global;
 use std::test::Fail;
+use std::thread::Threads;
 
 // One transaction that puts 10 into the row `a` of the table `acct`, of one Int column.
 const ONE_PUT: [u8; 59] = [
@@ -25,14 +26,14 @@ struct Run<'a> {
     held: &'a [u8],
 }
 
-fn check(alloc: Global, run: &Run<'_>) -> Result<bool, Fail> {
+fn check<R: Threads + Sync>(rt: &R, alloc: Global, run: &Run<'_>) -> Result<bool, Fail> {
     let mut words = Vec::new(alloc);
     for word in run.words {
         words.push(String::from_str(alloc, word)?)?;
     }
     let mut source = MemorySource::new(run.input.to_vec(alloc)?, 7, run.reads.to_vec(alloc)?);
     let mut sink = MemorySink::new(alloc, 100, 4, run.writes.to_vec(alloc)?)?;
-    let status = c5(alloc, &words, &mut source, &mut sink);
+    let status = c5(rt, alloc, &words, &mut source, &mut sink);
     Ok(status == run.status && sink.held() == run.held)
 }
 
@@ -87,9 +88,10 @@ fn apply_ends_with_each_status(rt: HostRuntime) -> Result<(), Fail> {
             b"bad words\n",
         ),
         case(&[], &ONE_PUT, &[1], NONE, Status::BadWords, b"bad words\n"),
+        case(&["-V"], &ONE_PUT, &[1], NONE, Status::Ok, b"c5 0.1.0\n"),
     ];
     for (number, run) in runs.iter().enumerate() {
-        assert!(rt; check(rt.alloc(), run)?, "run {number}");
+        assert!(rt; check(&rt, rt.alloc(), run)?, "run {number}");
     }
     Ok(())
 }
@@ -119,7 +121,7 @@ fn primary_ends_with_each_status(rt: HostRuntime) -> Result<(), Fail> {
         ),
     ];
     for (number, run) in runs.iter().enumerate() {
-        assert!(rt; check(rt.alloc(), run)?, "run {number}");
+        assert!(rt; check(&rt, rt.alloc(), run)?, "run {number}");
     }
     Ok(())
 }

@@ -1,0 +1,5 @@
+use Rattle.c5_driver.proofs.Passed.{within-limits}
+use Rattle.c5_driver.proofs.logs.run_of.Goals as goal
+
+pub run_serial-requires : goal.run_serial-requires
+run_serial-requires c = (within-limits c.args.script.now c.requires).transactions
