@@ -10,6 +10,7 @@ import random
 import subprocess
 import sys
 
+import meaning
 import reference
 
 TOP = os.path.dirname(os.path.dirname(os.path.abspath(__file__)))
@@ -297,6 +298,22 @@ def wide_script(rand):
     return ("\n".join(lines) + "\n").encode()
 
 
+# The front of a script, a `log` line and a log, mostly one with the tables of the script.
+def backup_input(rand):
+    lines = [words for words in script_lines(rand) if words[0] != "turns"]
+    front = "\n".join(" ".join(words) for words in lines) + "\n" + rand.choice(("log\n", "log\n", " log \n", "log"))
+    if rand.random() < 0.2:
+        return front.encode() + log_input(rand)
+    try:
+        script, _ = reference.read_script(front.encode(), front=True)
+    except reference.Refused:
+        return front.encode() + bytes(random_log(rand))
+    log = bytearray(reference.spelled(meaning.names_and_types(script), reference.run_serial(script)))
+    if rand.random() < 0.2 and log:
+        log[rand.randrange(len(log))] ^= 1
+    return front.encode() + bytes(log)
+
+
 # Inputs at the limits of their counts: (command, what it is, input).
 def large_inputs():
     acct = [(b"acct", (1,))]
@@ -342,6 +359,16 @@ class Comparison:
         got = (ran.returncode, ran.stdout or b"")
         self.count(got == (status, printed), f"{' '.join(words)} on {name[:2000]}: {got[0]} {got[1][:200]!r}, not {status} {printed[:200]!r}")
 
+    # A command whose answer isn't one text: it is right by what it means.
+    def compare_meaning(self, rand, command, data):
+        words = [command]
+        for option in {"primary": ["--threads"], "backup": ["--workers"], "clone": ["--threads", "--workers"]}[command]:
+            words += [option, str(rand.choice((1, 2, 4, 16)))]
+        ran = subprocess.run([PROGRAM, *words], input=data, stdout=subprocess.PIPE, stderr=subprocess.DEVNULL)
+        self.answers[command, answer_name(ran.returncode, ran.stdout)] += 1
+        why = meaning.wrong(command, data, ran.returncode, ran.stdout)
+        self.count(why is None, f"{' '.join(words)} on {data[:2000]!r}: {why}")
+
     # Words that are no command, an input that can't be read, and an output that can't be written.
     def compare_streams(self):
         log, script = reference.spelled([(b"t", (1,))], []), b"table t int\n"
@@ -384,6 +411,12 @@ def main():
     for make in [line_input] * 1000 + [limit_input] * 80 + [wide_script] * 40:
         data = make(rand)
         comparison.compare("primary", repr(data), data)
+    for make in [script_input] * 150 + [wide_script] * 30:
+        data = make(rand)
+        for command in ("primary", "clone"):
+            comparison.compare_meaning(rand, command, data)
+    for _ in range(200):
+        comparison.compare_meaning(rand, "backup", backup_input(rand))
     for command, name, data in large_inputs():
         comparison.compare(command, name, data)
     comparison.compare_streams()

@@ -5,7 +5,7 @@ A refusal also has the tests that the faulty item or line fails, in the order of
 gives the fault, and the others show whether another order would have given another one."""
 import sys
 
-LIMITS = {"apply": 88_080_384, "primary": 4_194_304}
+LIMITS = {"apply": 88_080_384, "backup": 88_080_384, "primary": 4_194_304, "clone": 4_194_304}
 KEY = bytes(set(range(0x21, 0x7F)) - {0x22})
 TEXT = bytes(set(range(0x20, 0x7F)) - {0x22})
 PRINTABLE = bytes(range(0x20, 0x7F))
@@ -432,12 +432,18 @@ def written_names(body):
             yield statement[2]
 
 
-def check_limits(script):
-    names = [name for body in script.bodies for name in written_names(body)]
-    for passed, what in ((len(script.bodies) > 65_536, "transactions"), (len(names) > 262_144, "writes"),
-                         (len(set(names)) > 65_536, "rows")):
+def check_counts(transactions, names):
+    for passed, what in ((transactions > 65_536, "transactions"), (len(names) > 262_144, "writes"), (len(set(names)) > 65_536, "rows")):
         if passed:
             raise Refused(9, f"limit {what}\n")
+
+
+def check_limits(script):
+    check_counts(len(script.bodies), [name for body in script.bodies for name in written_names(body)])
+
+
+def check_log_limits(txns):
+    check_counts(len(txns), [name for _, _, writes in txns for name, _ in writes])
 
 
 HOLDS = {"lt": int.__lt__, "le": int.__le__, "eq": int.__eq__, "ge": int.__ge__, "gt": int.__gt__}
@@ -491,6 +497,7 @@ def run_serial(script):
 
 def apply(data):
     tables, txns = read_log(data)
+    check_log_limits(txns)
     state = {}
     for _, _, writes in txns:
         apply_writes(state, writes)
