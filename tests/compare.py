@@ -320,6 +320,12 @@ def large_inputs():
     writes = [((0, b"%07d" % number), (number,)) for number in range(262_144)]
     yield "apply", "262144 writes in one transaction", reference.spelled(acct, [(0, 1, writes)])
     yield "apply", "65536 transactions without writes", reference.spelled(acct, [(0, number + 1, []) for number in range(65_536)])
+    yield "apply", "65537 transactions without writes", reference.spelled(acct, [(0, number + 1, []) for number in range(65_537)])
+    yield "apply", "65536 puts of ascending keys", reference.spelled(acct, [(0, 1, writes[:65_536])])
+    yield "apply", "65537 puts of ascending keys", reference.spelled(acct, [(0, 1, writes[:65_537])])
+    for count in (262_144, 262_145):
+        yield "apply", f"{count} writes of eight rows", reference.spelled(
+            acct, [(0, number + 1, writes[:min(8, count - 8 * number)]) for number in range((count + 7) // 8)])
     yield "apply", "a byte too many", bytes(reference.LIMITS["apply"] + 1)
     yield "primary", "a byte too many", b"\n" * (reference.LIMITS["primary"] + 1)
     yield "primary", "a line of 4 million bytes", b"table acct int\ntxn\n" + b"x " * 2_000_000 + b"\nend\n"

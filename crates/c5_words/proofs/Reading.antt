@@ -11,7 +11,7 @@ use Rattle.clap.proofs.WalkLemmas.{first_value-rows, one_text-rows}
 use Rattle.clap.specs.declared.parser.matches.Found.{Found}
 use Rattle.c5_words.specs.Names.{command_named}
 use Rattle.c5_words.specs.Program.{max_count}
-use Rattle.c5_words.specs.Meaning.{number_of, run_of}
+use Rattle.c5_words.specs.Meaning.{option_number, run_of}
 use Rattle.c5_words.specs.declared.command.Command.{Command}
 use Rattle.c5_words.specs.declared.request.Request.TheVariants.{Run}
 
@@ -20,8 +20,8 @@ pub number_read : (E : Type 0) (G : List ℕ → Result ℕ E → Type 0) (f : F
     (r : Option ℕ) → ((u : List ℕ) (x : Result ℕ E) → G u x → ParsesUnsigned 32 10 u x)
     → IfSome (one_text f name) (IsUnsignedIn 1 max_count) → (one_text f name ≡ None → r ≡ None)
     → ((t : Text) → one_text f name ≡ Some t → ReadsOne G t r)
-    → unwrap_or r 1 ≡ number_of name (rows_of f)
-unfolding number_of
+    → unwrap_or r 1 ≡ option_number name (rows_of f)
+unfolding option_number
 number_read E G f name r only within none value = rw (← one_text-rows f name)
     (go (one_text f name) refl within)
   where
@@ -39,9 +39,9 @@ number_read E G f name r only within none value = rw (← one_text-rows f name)
 
 -- a number of an option is in the option's range
 pub number_within : (f : Found) (name : Text) (most n : ℕ) → 1 ≤ most
-    → IfSome (one_text f name) (IsUnsignedIn 1 most) → n ≡ number_of name (rows_of f)
+    → IfSome (one_text f name) (IsUnsignedIn 1 most) → n ≡ option_number name (rows_of f)
     → (1 ≤ n) × (n ≤ most)
-unfolding number_of
+unfolding option_number
 number_within f name most n some within is =
     go (one_of name (rows_of f)) refl
     (subst (λ (o : Option Text). IfSome o (IsUnsignedIn 1 most)) (one_text-rows f name) within)
@@ -57,7 +57,7 @@ number_within f name most n some within is =
 
 pub run_is : (f : Found) (word : Text) (o : Option Command) (a b : ℕ)
     → Some word ≡ first_value f (codes "command") → o ≡ command_named word
-    → a ≡ number_of (codes "threads") (rows_of f) → b ≡ number_of (codes "workers") (rows_of f)
+    → a ≡ option_number (codes "threads") (rows_of f) → b ≡ option_number (codes "workers") (rows_of f)
     → run_of (rows_of f)
     ≡ option_map (λ (k : Command). Run k (record { threads = a; workers = b })) o
 run_is f word o a b first named threads workers =

@@ -19,15 +19,15 @@ use Rattle.c5_words.specs.declared.request.WordsFault.{WordsFault}
 use Rattle.c5_words.specs.declared.request.WordsFault.TheVariants.{Refused, NoMemory}
 
 -- the number of the option of this name, 1 if it isn't given
-unfoldable pub number_of : Text → List Row → ℕ
-number_of name rows =
+unfoldable pub option_number : Text → List Row → ℕ
+option_number name rows =
     option_map_or (λ text. digits_value 10 (without_leading_plus text)) (one_of name rows) 1
 
 -- the numbers of the options
 abbrev pub options_of : List Row → Options
 options_of rows = record {
-  threads = number_of (codes "threads") rows;
-  workers = number_of (codes "workers") rows;
+  threads = option_number (codes "threads") rows;
+  workers = option_number (codes "workers") rows;
 }
 
 -- the run that accepted words ask for: none if their command has another name than those known

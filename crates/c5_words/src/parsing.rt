@@ -5,7 +5,7 @@ ghost use Rattle.clap.specs.Words.{found_of, one_text, rows_of};
 ghost use Rattle.clap.specs.Values.{IsUnsignedIn};
 ghost use Rattle.c5_rows.specs.Sizes.{max_threads, max_workers};
 ghost use Rattle.c5_words.specs.Program.{max_count};
-ghost use Rattle.c5_words.specs.Meaning.{Answers, IsWithin, meaning_of, number_of, request_for};
+ghost use Rattle.c5_words.specs.Meaning.{Answers, IsWithin, meaning_of, option_number, request_for};
 ghost use Rattle.c5_words.specs.Meaning.{run_of};
 
 use crate::command::command_named;
@@ -19,7 +19,7 @@ use std::alloc::Global;
 // The number of the option of this name, 1 if it isn't given.
 fn number_given(matches: &ArgMatches<'_>, name: &str) -> u32
     requires { IfSome (one_text (found_of matches.now) name.now) (IsUnsignedIn 1 max_count) }
-    ensures { result ≡ number_of name.now (rows_of (found_of matches.now)) }
+    ensures { result ≡ option_number name.now (rows_of (found_of matches.now)) }
 {
     matches.get_one::<u32>(name).unwrap_or(1)
 }
