@@ -14,7 +14,6 @@ ghost use Rattle.c5_driver.specs.Replaying.{IsReplayOver, PrintsReplay};
 
 use c5_io::OpenGate;
 use c5_plan::Plan;
-use c5_primary::serial_run_law;
 use c5_replay::{ReplayFault, Replayed, replay};
 use c5_rows::{NoMemory, Reply, Rows, Schema};
 use c5_script::Script;
@@ -88,7 +87,6 @@ fn replay_of<R: Threads + Sync>(
     ensures rows { result ≡ Err ReplayFault.Rows → max_rows < row_count (names_in plan.now.txns) }
     ensures few { OnOk result (row_count (names_in plan.now.txns) ≤ max_rows) }
 {
-    serial_run_law();
     let start = Rows::new(alloc);
     replay(
         rt,

@@ -1,10 +1,7 @@
 //! The replay of a log.
 
 ghost use Rattle.std.specs.Prelude.{◌≡◌, ◌≤◌, ◌<◌, length, Err, IfOk, OnOk};
-ghost use Rattle.std.specs.List.{AllByRecursion};
 ghost use Rattle.c5_rows.specs.Sizes.{max_reads, max_rows, max_workers};
-ghost use Rattle.c5_definitions.specs.FitsScript.{ReadFits};
-ghost use Rattle.c5_definitions.specs.FitsState.{StateFits};
 ghost use Rattle.c5_definitions.specs.WriteNumbers.{names_in};
 ghost use Rattle.c5_plan.specs.Written.{row_count};
 ghost use Rattle.c5_board.specs.Boards.{IsWorker};
@@ -60,8 +57,6 @@ pub fn replay<G: Gate, R: Threads + Sync>(
 ) -> Result<Replayed, ReplayFault>
     requires workers { IsWorker max_workers workers }
     requires reads { length reads.now ≤ max_reads }
-    requires start { StateFits plan.now.tables start.now }
-    requires fits { AllByRecursion (ReadFits plan.now.tables) reads.now }
     ensures replayed { IfOk result
         (λ r. IsReplay plan.now start.now reads.now r.replies r.rows) }
     ensures pass { IfOk result

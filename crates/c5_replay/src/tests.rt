@@ -1,5 +1,4 @@
 ghost use Rattle.std.specs.Prelude.{◌≡◌, ◌≤◌, length, IfOk};
-ghost use Rattle.c5_definitions.specs.FitsScript.{ReadFits};
 
 use super::*;
 use c5_definitions::ReadLine;
