@@ -15,8 +15,7 @@ FILES = {
         "longest.log": "the longest log: 262,144 writes of 8 texts, 65,536 rows",
         "few_rows.log": "65,536 transactions of 2 writes, 64 rows",
         "many_rows.log": "65,536 transactions of 4 writes, 64,000 rows",
-        "many_transactions.log": "65,536 transactions of 4 writes, 262,144 rows",
-        "one_transaction.log": "the same writes in one transaction",
+        "one_transaction.log": "65,536 writes in one transaction, 65,536 rows",
     },
     "primary": {
         "transfers.c5s": "transfers between 64 accounts",

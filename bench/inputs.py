@@ -67,22 +67,12 @@ def many_rows(out):
     out.write(end(TRANSACTIONS))
 
 
-# 262,144 writes in one transaction: each is of a row of its own.
+# 65,536 writes in one transaction: each is of a row of its own.
 def one_transaction(out):
     out.write(ONE_TABLE)
-    for number in range(TRANSACTIONS * WRITES):
-        out.write(put(b"%07d" % number, number))
-    out.write(mark(0, 1, TRANSACTIONS * WRITES) + end(1))
-
-
-# The same writes in transactions of four.
-def many_transactions(out):
-    out.write(ONE_TABLE)
     for number in range(TRANSACTIONS):
-        for write in range(number * WRITES, (number + 1) * WRITES):
-            out.write(put(b"%07d" % write, write))
-        out.write(mark(number, number + 1, WRITES))
-    out.write(end(TRANSACTIONS))
+        out.write(put(b"%07d" % number, number))
+    out.write(mark(0, 1, TRANSACTIONS) + end(1))
 
 
 SCRIPT_BYTES = 4_194_304
@@ -139,7 +129,7 @@ def puts(out):
 
 
 FILES = {"longest": ".log", "few_rows": ".log", "many_rows": ".log", "one_transaction": ".log",
-         "many_transactions": ".log", "transfers": ".c5s", "texts": ".c5s", "puts": ".c5s"}
+         "transfers": ".c5s", "texts": ".c5s", "puts": ".c5s"}
 
 if __name__ == "__main__":
     folder = sys.argv[1]

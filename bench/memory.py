@@ -30,8 +30,8 @@ def script(count, line):
 
 
 def main():
-    txn = each("apply", lambda count: log(count, 0), 150_000, 300_000, 1)
-    write = each("apply", lambda count: log(count, 100), 3_000, 9_000, 100)
+    txn = each("apply", lambda count: log(count, 0), 30_000, 60_000, 1)
+    write = each("apply", lambda count: log(count, 100), 800, 2_400, 100)
     print(f"apply: beside the log's own bytes, about {txn:.0f} bytes for a transaction and {write:.0f} for a write of it")
     need = each("primary", lambda count: script(count, lambda number: b"need t a 0 ge 1\n"), 400, 900, 255)
     put = each("primary", lambda count: script(count, lambda number: b"put t %07d 1\n" % number), 400, 900, 255)
