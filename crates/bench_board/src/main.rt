@@ -25,7 +25,7 @@ fn is_decoding_alone<R: Env + AllocGlobal>(rt: &R) -> io::Result<bool> {
     Ok(env::args(rt)?.nth(1).is_some())
 }
 
-// `None` if it isn't a log, or there is no memory.
+// `None` if it isn't a log, or out of memory.
 fn decoded(alloc: Global, bytes: &[u8]) -> Option<LogBuffer> {
     if bytes.len() > MAX_LOG_BYTES {
         return None;
