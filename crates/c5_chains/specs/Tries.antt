@@ -17,8 +17,8 @@ head_found names w (PutOff seen) = seen
 
 -- the pass after w was tried, where its row's head was found to be this: w is installed if that is
 -- its predecessor
-abbrev pub tried : Pass → ℕ → ℕ → Pass
-tried p w head = record p {
+abbrev pub after_try : Pass → ℕ → ℕ → Pass
+after_try p w head = record p {
   installed = if head == predecessor_of (names p.board) w then w ∷ p.installed else p.installed;
   looks = p.looks ++ LoadRecord w (record_of (names p.board) w) ∷ ExchangeHead w head ∷ [];
 }

@@ -4,7 +4,7 @@ ghost use Rattle.std.specs.Prelude.{◌≡◌, ◌≤◌, true, false};
 ghost use Rattle.c5_rows.specs.Numbers.{is_among};
 ghost use Rattle.c5_board.specs.Boards.{names};
 ghost use Rattle.c5_board.specs.Passes.{owner_in};
-ghost use Rattle.c5_chains.specs.Tries.{tried, IsCaused, head_found};
+ghost use Rattle.c5_chains.specs.Tries.{after_try, IsCaused, head_found};
 
 use crate::install::Install;
 use c5_board::{Board, BoardPass};
@@ -19,7 +19,7 @@ pub fn try_install(board: &Board<'_>, pass: &mut BoardPass, w: u32) -> Install
     requires role { is_among (owner_in pass.old w) pass.old.roles ≡ true }
     requires write { (1 ≤ w) × (w ≤ pass.old.scheduled) }
     requires not_installed { is_among w pass.old.installed ≡ false }
-    ensures pass { pass.new ≡ tried pass.old w (head_found (names board.now) w result) }
+    ensures pass { pass.new ≡ after_try pass.old w (head_found (names board.now) w result) }
     ensures cause { IsCaused pass.old w result }
 {
     number_law();

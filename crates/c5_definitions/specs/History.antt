@@ -52,12 +52,12 @@ unfoldable pub commits : List Entry → List (ℕ × List Write)
 commits history = flat_map (λ entry. committed_in entry.stamp entry.event) history
 
 -- the stamps that were committed or cancelled
-unfoldable pub ended : List Entry → List ℕ
-ended history = flat_map (λ entry. ended_in entry.stamp entry.event) history
+unfoldable pub ended_stamps : List Entry → List ℕ
+ended_stamps history = flat_map (λ entry. ended_in entry.stamp entry.event) history
 
 -- the transactions that were begun, and neither committed nor cancelled
 unfoldable pub open_txns : List Entry → List Begun
-open_txns history = filter (λ b. not (is_among b.stamp (ended history))) (begun history)
+open_txns history = filter (λ b. not (is_among b.stamp (ended_stamps history))) (begun history)
 
 -- the stamp that was begun last; with none, the given one
 abbrev pub last_begun : ℕ → List Begun → ℕ

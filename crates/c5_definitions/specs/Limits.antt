@@ -29,14 +29,14 @@ abbrev pub write_statements : List (List Statement) → ℕ
 write_statements bodies = length (written_names bodies)
 
 -- the number of different rows that they write
-abbrev pub written_rows : List (List Statement) → ℕ
-written_rows bodies = distinct_count (eq_by_cmp row_name_cmp) (written_names bodies)
+abbrev pub written_row_count : List (List Statement) → ℕ
+written_row_count bodies = distinct_count (eq_by_cmp row_name_cmp) (written_names bodies)
 
 -- no limit is passed
 pub record AreWithinLimits (bodies : List (List Statement)) : Type 0 where
   pub transactions : length bodies ≤ max_transactions
   pub writes : write_statements bodies ≤ max_writes
-  pub rows : written_rows bodies ≤ max_rows
+  pub rows : written_row_count bodies ≤ max_rows
 
 -- the first limit that so many transactions, statements that write, and rows exceed
 abbrev pub excess_in : ℕ → ℕ → ℕ → Option Excess
@@ -49,4 +49,5 @@ excess_in transactions writes rows =
 -- the first limit that a script exceeds
 unfoldable pub excess_of : ScriptParts → Option Excess
 excess_of script =
-    excess_in (length script.bodies) (write_statements script.bodies) (written_rows script.bodies)
+    excess_in (length script.bodies) (write_statements script.bodies)
+    (written_row_count script.bodies)

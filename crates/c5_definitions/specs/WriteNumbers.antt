@@ -3,7 +3,8 @@ use Prim.Native.Nat.{zero, suc}
 use Rattle.std.specs.Prelude.{◌≡◌, ◌≤◌, ◌+◌, ◌-◌, ◌%◌, ℕ, Bool, false, List, length, map, take}
 use Rattle.std.specs.Prelude.{slice_get, nat_lt, Option, Some, None}
 use Rattle.std.specs.List.{flat_map}
-use Rattle.std.specs.Ordering.{is_eq}
+use Rattle.std.specs.Ordering.{eq_by_cmp, is_eq}
+use Rattle.std.specs.Set.{distinct_count}
 use Rattle.c5_rows.specs.Order.{row_name_cmp}
 use Rattle.c5_rows.specs.declared.writes.RowName.{RowName}
 use Rattle.c5_rows.specs.declared.writes.Write.{Write}
@@ -20,6 +21,14 @@ pub record IsWrite (names : List RowName) (w : ℕ) : Type 0 where
   pub within : w ≤ length names
 
 -- ---- rows
+
+-- the two are names of one row
+abbrev pub is_same_name : RowName → RowName → Bool
+is_same_name = eq_by_cmp row_name_cmp
+
+-- the number of different rows that writes with these names write
+abbrev pub row_count : List RowName → ℕ
+row_count names = distinct_count is_same_name names
 
 -- the name that write w has
 abbrev pub name_at : List RowName → ℕ → Option RowName

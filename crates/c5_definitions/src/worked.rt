@@ -7,7 +7,7 @@ ghost use Rattle.c5_rows.specs.Order.{row_name_cmp};
 ghost use Rattle.c5_rows.specs.State.{state_after};
 ghost use Rattle.c5_definitions.specs.Answers.{answer_of};
 ghost use Rattle.c5_definitions.specs.Lawful.{Spells};
-ghost use Rattle.c5_definitions.specs.Limits.{write_statements, written_rows, excess_in};
+ghost use Rattle.c5_definitions.specs.Limits.{write_statements, written_row_count, excess_in};
 ghost use Rattle.c5_definitions.specs.SerialRun.{serial_txns};
 ghost use Rattle.c5_definitions.specs.Texts.{rows_text};
 ghost use Rattle.c5_definitions.specs.Worked.{worked_tables, worked_txns, worked_bytes};
@@ -81,7 +81,7 @@ pub fn worked_answer()
 /// What is counted of bodies, and which limit comes first.
 pub fn worked_limits()
     ensures writes { write_statements counted_bodies ≡ 4 }
-    ensures rows { written_rows counted_bodies ≡ 2 }
+    ensures rows { written_row_count counted_bodies ≡ 2 }
     ensures none { excess_in max_transactions max_writes max_rows ≡ None }
     ensures transactions_first { excess_in 65537 262145 65537 ≡ Some Excess.Transactions }
     ensures writes_next { excess_in max_transactions (max_writes + 1) (max_rows + 1)

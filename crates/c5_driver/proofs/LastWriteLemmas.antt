@@ -19,7 +19,8 @@ use Rattle.c5_rows.proofs.RowLemmas.{entries_back}
 use Rattle.c5_definitions.specs.WriteNumbers.{names_in}
 use Rattle.c5_frames.specs.Index.{writes_of}
 use Rattle.c5_plan.specs.declared.written.WrittenRow.{WrittenRow}
-use Rattle.c5_plan.specs.Written.{is_same_name, last_from, last_write, last_in, AreWrittenRows}
+use Rattle.c5_definitions.specs.WriteNumbers.{is_same_name}
+use Rattle.c5_plan.specs.Written.{last_from, last_write, last_in, AreWrittenRows}
 use Rattle.c5_plan.proofs.Noting.{same_laws, same_exact, place_of_last}
 use Rattle.c5_plan.proofs.Sizing.{length-names_in}
 use Rattle.c5_driver.specs.LastWrites.{entry_left, entry_left_by, entry_of_written, entries_left, HasWrite}

@@ -9,7 +9,7 @@ use Rattle.c5_rows.specs.declared.writes.RowName.{RowName}
 use Rattle.c5_rows.specs.declared.writes.Txn.{Txn}
 use Rattle.c5_rows.specs.declared.writes.Write.{Write}
 use Rattle.c5_definitions.specs.ScriptParts.{ScriptParts}
-use Rattle.c5_definitions.specs.Limits.{write_statements, written_rows, AreWithinLimits, excess_of}
+use Rattle.c5_definitions.specs.Limits.{write_statements, written_row_count, AreWithinLimits, excess_of}
 use Rattle.c5_definitions.specs.declared.limits.Excess.{Excess}
 use Rattle.c5_definitions.specs.declared.limits.Excess.TheVariants as excesses
 use Rattle.c5_definitions.specs.WriteNumbers.{names_in}
@@ -18,7 +18,7 @@ use Rattle.c5_frames.specs.Index.{writes_of}
 use Rattle.c5_plan.specs.declared.plans.PlanFault.{PlanFault}
 use Rattle.c5_plan.specs.declared.plans.PlanFault.TheVariants as faults
 use Rattle.c5_plan.specs.Plans.{planned}
-use Rattle.c5_plan.specs.Written.{row_count}
+use Rattle.c5_definitions.specs.WriteNumbers.{row_count}
 use Rattle.c5_plan.proofs.Sizing.{length-names_in}
 use Rattle.c5_primary.specs.Serial.{IsLogWithin, total_writes, total_rows, row_names}
 use Rattle.c5_driver.specs.LogLimits.{excess_of_log}
@@ -44,7 +44,7 @@ within-limits script e =
     record {
       transactions = ltb-false 65536 (length script.bodies) first;
       writes = ltb-false 262144 (write_statements script.bodies) second;
-      rows = ltb-false 65536 (written_rows script.bodies) third;
+      rows = ltb-false 65536 (written_row_count script.bodies) third;
     }
 
 -- ---- logs

@@ -4,7 +4,7 @@ use Rattle.c5_rows.specs.declared.writes.Txn.{Txn}
 use Rattle.c5_definitions.specs.declared.limits.Excess.{Excess}
 use Rattle.c5_definitions.specs.Limits.{excess_in}
 use Rattle.c5_definitions.specs.WriteNumbers.{names_in}
-use Rattle.c5_plan.specs.Written.{row_count}
+use Rattle.c5_definitions.specs.WriteNumbers.{row_count}
 
 -- the first limit that a log of these transactions exceeds, by its writes and the different rows
 -- that they write

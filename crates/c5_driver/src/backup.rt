@@ -14,7 +14,7 @@ ghost use Rattle.c5_driver.specs.Uses.{source_use};
 
 use crate::command::input_limit;
 use crate::decoding::{fed, log_in};
-use crate::limits::planned;
+use crate::limits::plan_within;
 use crate::reading::read_bytes;
 use crate::refusal::Refusal;
 use crate::replaying::push_replay;
@@ -71,7 +71,7 @@ fn text_over<R: Threads + Sync>(
         (λ refusal. IsRefusedBy (log_refusal_over script.now.tables bytes.now) refusal) }
 {
     let log = log_over(alloc, script.schema(), bytes)?;
-    let plan = match planned(&log) {
+    let plan = match plan_within(&log) {
         Ok(plan) => plan,
         Err(excess) => return Err(Refusal::Limit(excess)),
     };

@@ -12,7 +12,7 @@ ghost use Rattle.c5_driver.specs.Options.{AreOptions};
 ghost use Rattle.c5_driver.specs.Uses.{source_use};
 
 use crate::command::input_limit;
-use crate::limits::planned;
+use crate::limits::plan_within;
 use crate::logs::{decoded_run, run_of};
 use crate::reading::read_bytes;
 use crate::refusal::Refusal;
@@ -62,7 +62,7 @@ fn text_of_clone<R: Threads + Sync>(
     let mut text = order_of(alloc, &txns)?;
     let log = decoded_run(alloc, script, &txns)?;
     drop(txns);
-    let plan = match planned(&log) {
+    let plan = match plan_within(&log) {
         Ok(plan) => plan,
         Err(_) => unreachable!(),
     };

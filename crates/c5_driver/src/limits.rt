@@ -16,7 +16,7 @@ use c5_rows::{MAX_ROWS, NoMemory};
 use std::alloc::Global;
 
 /// The plan of a log, or the limit that its transactions or writes exceed.
-pub fn planned(log: &LogBuffer) -> Result<Plan<'_>, Excess>
+pub fn plan_within(log: &LogBuffer) -> Result<Plan<'_>, Excess>
     ensures value { IfOk result (λ plan. plan ≡ log.now) }
     ensures planned { OnOk result (IsPlanned log.now) }
     ensures passed { IfErr result (λ excess. excess_of_log log.now.txns ≡ Some excess) }
@@ -35,7 +35,7 @@ pub fn rows_within(alloc: Global, log: &LogBuffer) -> Result<Vec<WrittenRow>, Re
     ensures refused { IfErr result
         (λ refusal. IsRefusedBy (option_map Limit (excess_of_log log.now.txns)) refusal) }
 {
-    match planned(log) {
+    match plan_within(log) {
         Ok(_) => {}
         Err(excess) => return Err(Refusal::Limit(excess)),
     }

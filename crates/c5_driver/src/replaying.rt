@@ -8,7 +8,7 @@ ghost use Rattle.c5_rows.specs.declared.answer.Reply.{Reply as ReplyValue};
 ghost use Rattle.c5_definitions.specs.Outputs.{backup_text, no_rows, reply_text};
 ghost use Rattle.c5_definitions.specs.Texts.{rows_text};
 ghost use Rattle.c5_definitions.specs.WriteNumbers.{names_in};
-ghost use Rattle.c5_plan.specs.Written.{row_count};
+ghost use Rattle.c5_definitions.specs.WriteNumbers.{row_count};
 ghost use Rattle.c5_driver.specs.Options.{AreOptions};
 ghost use Rattle.c5_driver.specs.Replaying.{IsReplayOver, PrintsReplay};
 

@@ -18,7 +18,7 @@ use Rattle.c5_frames.specs.DecoderStates.{DecodedState, decoded_state, tables_of
 use Rattle.std.specs.Result.{IfErr}
 use Rattle.c5_definitions.specs.Lawful.{Spells}
 use Rattle.c5_frames.specs.Log.{Log}
-use Rattle.c5_frames.specs.Feeding.{Finishes}
+use Rattle.c5_frames.specs.Feeding.{FinishesLog}
 use Rattle.c5_frames.proofs.LawOneLog.{spells-log_of}
 use Rattle.c5_frames.proofs.LawBytes.{after_bytes-append}
 use Rattle.c5_frames.proofs.Indexing.{LieAt-none, IsIndex-more, open-length}
@@ -188,7 +188,7 @@ never-both bytes fault tables txns bad spells = clash _ fault (sym (spells-log_o
     clash : (log : LogParts) (fault : LogFault) → read_as log ≡ Err fault → ⊥
     clash log fault e = cc
 
-pub refused : (bytes : List ℕ) (result : Result Log LogFault) → Finishes bytes result → IfErr result (λ fault. (tables : List TableDef) (txns : List Txn) → Spells bytes tables txns → ⊥)
+pub refused : (bytes : List ℕ) (result : Result Log LogFault) → FinishesLog bytes result → IfErr result (λ fault. (tables : List TableDef) (txns : List Txn) → Spells bytes tables txns → ⊥)
 refused bytes (Ok log) h = tt
 refused bytes (Err fault) h = λ tables txns spells. never-both bytes fault tables txns h spells
 

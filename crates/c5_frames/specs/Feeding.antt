@@ -16,7 +16,7 @@ Feeds old piece new (Err (faults.Log fault)) = (new ≡ old ++ piece)
 Feeds old piece new (Err faults.NoMemory) = new ≡ old
 
 -- the bytes are the log of these tables and transactions, or have this fault
-abbrev pub Finishes : List ℕ → Result Log LogFault → Type 0
-Finishes bytes (Ok log) = (log.bytes ≡ bytes)
+abbrev pub FinishesLog : List ℕ → Result Log LogFault → Type 0
+FinishesLog bytes (Ok log) = (log.bytes ≡ bytes)
     × (log_of bytes ≡ Ok (record { tables = log.tables; txns = log.txns }))
-Finishes bytes (Err fault) = log_of bytes ≡ Err fault
+FinishesLog bytes (Err fault) = log_of bytes ≡ Err fault

@@ -21,8 +21,8 @@ abbrev pub unread : {X : Type 0} → Result (X × List ℕ) LogKind → Result (
 unread read = read >>= λ x. Ok x.1
 
 -- the name of the write that follows the byte `W`
-abbrev pub name_at : List TableDef → List ℕ → Result RowName LogKind
-name_at tables bytes = write_at tables bytes >>= λ w. Ok w.name
+abbrev pub write_name_at : List TableDef → List ℕ → Result RowName LogKind
+write_name_at tables bytes = write_at tables bytes >>= λ w. Ok w.name
 
 -- what is shown of a payload: the name of a write, or the numbers of a mark
 pub data Shown : Type 0 where

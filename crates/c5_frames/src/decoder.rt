@@ -7,7 +7,7 @@ ghost use Rattle.c5_rows.specs.declared.tables.TableDef.{TableDef};
 ghost use Rattle.c5_rows.specs.declared.writes.Txn.{Txn};
 ghost use Rattle.c5_definitions.specs.Items.{after_bytes, at_start};
 ghost use Rattle.c5_definitions.specs.Lawful.{Spells};
-ghost use Rattle.c5_frames.specs.Feeding.{Feeds, Finishes};
+ghost use Rattle.c5_frames.specs.Feeding.{Feeds, FinishesLog};
 ghost use Rattle.c5_frames.specs.Index.{HasRoom};
 ghost use Rattle.c5_frames.specs.DecoderStates.{Decodes, decoded_state};
 
@@ -110,7 +110,7 @@ fn feed_piece(
 
 fn finish_log(bytes: Vec<u8>, progress: DecoderState) -> Result<LogBuffer, LogFault>
     requires { Decodes bytes.items progress None }
-    ensures read { Finishes bytes.items result }
+    ensures read { FinishesLog bytes.items result }
     ensures spelled { IfOk result (λ log. Spells bytes.items log.tables log.txns) }
 {
     let DecoderState {
@@ -188,7 +188,7 @@ impl Decoder {
 
     /// The log of all bytes that were fed, or their fault.
     pub fn finish(self) -> Result<LogBuffer, LogFault>
-        ensures read { Finishes self result }
+        ensures read { FinishesLog self result }
         ensures spelled { IfOk result (λ log. Spells self log.tables log.txns) }
         // Bytes with a fault are the spelling of no log.
         ensures refused { IfErr result

@@ -36,7 +36,7 @@ pub enum Checked<'a> {
 }
 
 ghost use Rattle.c5_frames.specs.Payloads.{Passes, unread, shown_at, shown_by, numbers_of, name_of};
-ghost use Rattle.c5_frames.specs.Payloads.{name_at};
+ghost use Rattle.c5_frames.specs.Payloads.{write_name_at};
 ghost use Rattle.c5_definitions.specs.Steps.{Gives};
 
 fn is_key(bytes: &[u8]) -> bool
@@ -150,7 +150,7 @@ fn check_change(columns: &[CellType], bytes: &[u8]) -> Result<(), LogKind>
 // What follows the byte `W`.
 #[tactic(auto, unfolding(c5_definitions::specs::Frames::write_at, c5_definitions::specs::Frames::table_numbered))]
 fn check_write<'a>(tables: &[TableDef], bytes: &'a [u8]) -> Result<NameRef<'a>, LogKind>
-    ensures { Gives name_of result (name_at tables.now bytes.now) }
+    ensures { Gives name_of result (write_name_at tables.now bytes.now) }
 {
     let Some((number, rest)) = bytes.split_first() else {
         return Err(LogKind::Table);

@@ -16,7 +16,7 @@ use Rattle.c5_definitions.specs.declared.history.Entry.{Entry}
 use Rattle.c5_definitions.specs.declared.history.Event.{Event}
 use Rattle.c5_definitions.specs.declared.history.Event.TheVariants.{Begin, Read, Commit as Commits, Cancel}
 use Rattle.c5_definitions.specs.declared.history.OrderBase.{OrderBase}
-use Rattle.c5_definitions.specs.History.{Begun, VersionRead, begun, commits, ended, open_txns, last_begun, last_stamp, writes_row, version_in, version_at, reads}
+use Rattle.c5_definitions.specs.History.{Begun, VersionRead, begun, commits, ended_stamps, open_txns, last_begun, last_stamp, writes_row, version_in, version_at, reads}
 use Rattle.c5_rows.specs.Numbers.{is_among}
 use Rattle.c5_definitions.specs.OrderLog.{Conflict, reads_version, conflicts_on, conflicts, txn_of, committed, committed_stamp, open_stamp, IsOpen, BeginsNext, Allows, AllowsFrom, IsOrderHistory}
 use Rattle.c5_order.proofs.Versions.{Commit, contains-head, contains-tail}
@@ -24,7 +24,7 @@ use Rattle.c5_order.proofs.Histories.{entry, begun-push, commits-push, ended-pus
 use Rattle.c5_order.proofs.Steps.{sound-begin, sound-read, sound-cancel, NoneReads, sound-commit}
 
 abbrev pub SoundAt : OrderBase → List Entry → Type 0
-SoundAt base h = Sound base (begun h) (commits h) (ended h) (reads h)
+SoundAt base h = Sound base (begun h) (commits h) (ended_stamps h) (reads h)
 
 along : (base : OrderBase) (bs bs' : List Begun) (cs cs' : List Commit) (es es' : List ℕ) (rs rs' : List VersionRead) → bs ≡ bs' → cs ≡ cs' → es ≡ es' → rs ≡ rs' → Sound base bs cs es rs → Sound base bs' cs' es' rs'
 along base bs bs' cs cs' es es' rs rs' b c e r s =
@@ -79,7 +79,7 @@ committed_of-contains cs bs b w there e =
     flat_map-contains (λ b. txn_of b (lookup (λ n. eqb n b.stamp) cs)) bs b (record { script = b.script; stamp = b.stamp; writes = w }) there
     (subst (λ o. Contains (txn_of b o) (record { script = b.script; stamp = b.stamp; writes = w })) (sym e) (contains-head (record { script = b.script; stamp = b.stamp; writes = w }) []))
 
-alone : (h : List Entry) (script : ℕ) → committed_stamp script (committed h) ≡ None → open_stamp script (open_txns h) ≡ None → (a : Begun) → Contains (begun h) a → a.script ≡ script → IsLive (commits h) (ended h) a.stamp → ⊥
+alone : (h : List Entry) (script : ℕ) → committed_stamp script (committed h) ≡ None → open_stamp script (open_txns h) ≡ None → (a : Begun) → Contains (begun h) a → a.script ≡ script → IsLive (commits h) (ended_stamps h) a.stamp → ⊥
 alone h script gone closed a there same (inl e) = none-open script (open_txns h) a closed (begun-open h a there e) same
 alone h script gone closed a there same (inr (w, e)) =
     none-committed script (committed h) (record { script = a.script; stamp = a.stamp; writes = w }) gone
@@ -139,27 +139,27 @@ none-reads h s ws none = All-weaker (Contains (reads h)) (λ r. writes_row r.nam
 sound-step : (base : OrderBase) (h : List Entry) (caller stamp : ℕ) (event : Event) → SoundAt base h → Allows base h caller stamp event → SoundAt base (h ++ entry caller stamp event ∷ [])
 sound-step base h caller stamp (Begin script) sound allowed =
     let b : Begun = record { caller = caller; stamp = stamp; script = script } in
-    along base (begun h ++ b ∷ []) (begun (h ++ entry caller stamp (Begin script) ∷ [])) (commits h) (commits (h ++ entry caller stamp (Begin script) ∷ [])) (ended h) (ended (h ++ entry caller stamp (Begin script) ∷ [])) (reads h) (reads (h ++ entry caller stamp (Begin script) ∷ []))
-    (sym (begun-push h caller stamp (Begin script))) (sym (commits-push h caller stamp (Begin script) ∙ append-nil (commits h))) (sym (ended-push h caller stamp (Begin script) ∙ append-nil (ended h))) (sym (reads-push h caller stamp (Begin script) ∙ append-nil (reads h)))
-    (sound-begin base (begun h) (commits h) (ended h) (reads h) b sound (allowed.next ∙ ap (λ n. n + 1) (last_stamp-is base.last h)) allowed.fits allowed.script_known (alone h script allowed.not_committed allowed.not_open))
+    along base (begun h ++ b ∷ []) (begun (h ++ entry caller stamp (Begin script) ∷ [])) (commits h) (commits (h ++ entry caller stamp (Begin script) ∷ [])) (ended_stamps h) (ended_stamps (h ++ entry caller stamp (Begin script) ∷ [])) (reads h) (reads (h ++ entry caller stamp (Begin script) ∷ []))
+    (sym (begun-push h caller stamp (Begin script))) (sym (commits-push h caller stamp (Begin script) ∙ append-nil (commits h))) (sym (ended-push h caller stamp (Begin script) ∙ append-nil (ended_stamps h))) (sym (reads-push h caller stamp (Begin script) ∙ append-nil (reads h)))
+    (sound-begin base (begun h) (commits h) (ended_stamps h) (reads h) b sound (allowed.next ∙ ap (λ n. n + 1) (last_stamp-is base.last h)) allowed.fits allowed.script_known (alone h script allowed.not_committed allowed.not_open))
 sound-step base h caller stamp (Read name) sound allowed =
     let r : VersionRead = record { reader = stamp; name = name; version = version_at h name stamp } in
-    along base (begun h) (begun (h ++ entry caller stamp (Read name) ∷ [])) (commits h) (commits (h ++ entry caller stamp (Read name) ∷ [])) (ended h) (ended (h ++ entry caller stamp (Read name) ∷ [])) (reads h ++ r ∷ []) (reads (h ++ entry caller stamp (Read name) ∷ []))
-    (sym (begun-push h caller stamp (Read name) ∙ append-nil (begun h))) (sym (commits-push h caller stamp (Read name) ∙ append-nil (commits h))) (sym (ended-push h caller stamp (Read name) ∙ append-nil (ended h))) (sym (reads-push h caller stamp (Read name)))
-    (sound-read base (begun h) (commits h) (ended h) (reads h) r sound (sym (version_at-is h name stamp)) (uncommitted h stamp (open-begun h (record { caller = caller; stamp = stamp; script = allowed.0 }) allowed.1).1))
+    along base (begun h) (begun (h ++ entry caller stamp (Read name) ∷ [])) (commits h) (commits (h ++ entry caller stamp (Read name) ∷ [])) (ended_stamps h) (ended_stamps (h ++ entry caller stamp (Read name) ∷ [])) (reads h ++ r ∷ []) (reads (h ++ entry caller stamp (Read name) ∷ []))
+    (sym (begun-push h caller stamp (Read name) ∙ append-nil (begun h))) (sym (commits-push h caller stamp (Read name) ∙ append-nil (commits h))) (sym (ended-push h caller stamp (Read name) ∙ append-nil (ended_stamps h))) (sym (reads-push h caller stamp (Read name)))
+    (sound-read base (begun h) (commits h) (ended_stamps h) (reads h) r sound (sym (version_at-is h name stamp)) (uncommitted h stamp (open-begun h (record { caller = caller; stamp = stamp; script = allowed.0 }) allowed.1).1))
 sound-step base h caller stamp (Commits writes) sound allowed =
     let b : Begun = record { caller = caller; stamp = stamp; script = allowed.0 } in
     let o = open-begun h b allowed.1 in
-    along base (begun h) (begun (h ++ entry caller stamp (Commits writes) ∷ [])) (commits h ++ (stamp, writes) ∷ []) (commits (h ++ entry caller stamp (Commits writes) ∷ [])) (ended h ++ stamp ∷ []) (ended (h ++ entry caller stamp (Commits writes) ∷ [])) (reads h) (reads (h ++ entry caller stamp (Commits writes) ∷ []))
+    along base (begun h) (begun (h ++ entry caller stamp (Commits writes) ∷ [])) (commits h ++ (stamp, writes) ∷ []) (commits (h ++ entry caller stamp (Commits writes) ∷ [])) (ended_stamps h ++ stamp ∷ []) (ended_stamps (h ++ entry caller stamp (Commits writes) ∷ [])) (reads h) (reads (h ++ entry caller stamp (Commits writes) ∷ []))
     (sym (begun-push h caller stamp (Commits writes) ∙ append-nil (begun h))) (sym (commits-push h caller stamp (Commits writes))) (sym (ended-push h caller stamp (Commits writes))) (sym (reads-push h caller stamp (Commits writes) ∙ append-nil (reads h)))
-    (sound-commit base (begun h) (commits h) (ended h) (reads h) b writes sound o.0 o.1 (uncommitted h stamp o.1) (outcome-in base h b writes allowed.2) allowed.3 (none-reads h stamp writes allowed.4))
+    (sound-commit base (begun h) (commits h) (ended_stamps h) (reads h) b writes sound o.0 o.1 (uncommitted h stamp o.1) (outcome-in base h b writes allowed.2) allowed.3 (none-reads h stamp writes allowed.4))
 sound-step base h caller stamp Cancel sound allowed =
-    along base (begun h) (begun (h ++ entry caller stamp Cancel ∷ [])) (commits h) (commits (h ++ entry caller stamp Cancel ∷ [])) (ended h ++ stamp ∷ []) (ended (h ++ entry caller stamp Cancel ∷ [])) (reads h) (reads (h ++ entry caller stamp Cancel ∷ []))
+    along base (begun h) (begun (h ++ entry caller stamp Cancel ∷ [])) (commits h) (commits (h ++ entry caller stamp Cancel ∷ [])) (ended_stamps h ++ stamp ∷ []) (ended_stamps (h ++ entry caller stamp Cancel ∷ [])) (reads h) (reads (h ++ entry caller stamp Cancel ∷ []))
     (sym (begun-push h caller stamp Cancel ∙ append-nil (begun h))) (sym (commits-push h caller stamp Cancel ∙ append-nil (commits h))) (sym (ended-push h caller stamp Cancel)) (sym (reads-push h caller stamp Cancel ∙ append-nil (reads h)))
-    (sound-cancel base (begun h) (commits h) (ended h) (reads h) stamp (record { caller = caller; stamp = stamp; script = allowed.0 }, (open-begun h (record { caller = caller; stamp = stamp; script = allowed.0 }) allowed.1).0, refl) sound)
+    (sound-cancel base (begun h) (commits h) (ended_stamps h) (reads h) stamp (record { caller = caller; stamp = stamp; script = allowed.0 }, (open-begun h (record { caller = caller; stamp = stamp; script = allowed.0 }) allowed.1).0, refl) sound)
 
 sound-start : (base : OrderBase) → SoundAt base []
-unfolding begun commits ended reads
+unfolding begun commits ended_stamps reads
 sound-start base = sound-nothing base
 
 pub sound-history : (base : OrderBase) (h : List Entry) → IsOrderHistory base h → SoundAt base h

@@ -8,7 +8,7 @@ use Rattle.c5_rows.specs.declared.writes.Write.{Write}
 use Rattle.c5_rows.specs.declared.writes.Txn.{Txn}
 use Rattle.c5_definitions.specs.declared.history.Entry.{Entry}
 use Rattle.c5_definitions.specs.declared.history.OrderBase.{OrderBase}
-use Rattle.c5_definitions.specs.History.{Begun, begun, commits, ended, open_txns}
+use Rattle.c5_definitions.specs.History.{Begun, begun, commits, ended_stamps, open_txns}
 use Rattle.c5_rows.specs.Numbers.{is_among}
 use Rattle.c5_definitions.specs.OrderLog.{committed, committed_stamp, open_stamp, IsOpen}
 use Rattle.c5_order.specs.declared.book.BodyState.{BodyState}
@@ -84,7 +84,7 @@ module _ (base : OrderBase) (h : List Entry) (sound : SoundAt base h) (script : 
   pub state-open-is : (st : BodyState) → HoldsState h script st → open_stamp script (open_txns h) ≡ open_in_state st
   state-open-is st holds = by st holds (open_stamp script (open_txns h)) refl
     where
-      live : (b : Begun) → IsOpen h b → Contains (begun h) b × IsLive (commits h) (ended h) b.stamp
+      live : (b : Begun) → IsOpen h b → Contains (begun h) b × IsLive (commits h) (ended_stamps h) b.stamp
       live b is_open_b = let o = open-begun h b is_open_b in (o.0, inl o.1)
 
       by : (st : BodyState) → HoldsState h script st → (o : Option ℕ) → open_stamp script (open_txns h) ≡ o → o ≡ open_in_state st

@@ -12,7 +12,7 @@ use Rattle.c5_rows.specs.Order.{row_name_cmp, row_name_cmp_total}
 use Rattle.c5_rows.specs.Writes.{IsAscending}
 use Rattle.c5_rows.proofs.WriteLemmas.{first_below}
 use Rattle.c5_definitions.specs.declared.history.Entry.{Entry}
-use Rattle.c5_definitions.specs.History.{VersionRead, begun, commits, ended, reads, version_at}
+use Rattle.c5_definitions.specs.History.{VersionRead, begun, commits, ended_stamps, reads, version_at}
 use Rattle.c5_definitions.specs.OrderLog.{Conflict, reads_version, conflicts_on, conflicts, IsFirstConflict}
 use Rattle.c5_order.specs.declared.marks.VersionKey.{VersionKey}
 use Rattle.c5_order.specs.declared.marks.Found.{Found}

@@ -20,7 +20,7 @@ use Rattle.c5_definitions.specs.declared.history.Event.TheVariants.{Begin, Read,
 use Rattle.c5_definitions.specs.declared.history.OrderBase.{OrderBase}
 use Rattle.c5_definitions.specs.Follows.{Follows}
 use Rattle.c5_definitions.specs.SerialRun.{body_at}
-use Rattle.c5_definitions.specs.History.{Begun, VersionRead, begun_in, committed_in, ended_in, begun, commits, ended, open_txns, last_begun, last_stamp, writes_row, version_in, version_at, left_by, row_of_version, row_seen, read_in, reads_from, reads, answered}
+use Rattle.c5_definitions.specs.History.{Begun, VersionRead, begun_in, committed_in, ended_in, begun, commits, ended_stamps, open_txns, last_begun, last_stamp, writes_row, version_in, version_at, left_by, row_of_version, row_seen, read_in, reads_from, reads, answered}
 use Rattle.c5_rows.specs.Numbers.{is_among}
 use Rattle.c5_definitions.specs.OrderLog.{Conflict, reads_version, conflicts_on, conflicts, IsOpen, IsOutcome, BeginsNext, Allows, AllowsFrom, IsOrderHistory}
 use Rattle.c5_order.proofs.Versions.{Commit, seen, version_in-push_no, version_in-push_yes, version_in-attained, version_in-narrow, contains-head, contains-tail, lookup-contains, lookup-more, lookup-push, lookup-none}
@@ -38,9 +38,9 @@ pub commits-push : (h : List Entry) (caller stamp : ℕ) (event : Event) → com
 unfolding commits
 commits-push h caller stamp event = flat_map-append (λ (e : Entry). committed_in e.stamp e.event) h (entry caller stamp event ∷ []) ∙ ap (λ cs. commits h ++ cs) (append-nil (committed_in stamp event))
 
-pub ended-push : (h : List Entry) (caller stamp : ℕ) (event : Event) → ended (h ++ entry caller stamp event ∷ []) ≡ ended h ++ ended_in stamp event
-unfolding ended
-ended-push h caller stamp event = flat_map-append (λ (e : Entry). ended_in e.stamp e.event) h (entry caller stamp event ∷ []) ∙ ap (λ es. ended h ++ es) (append-nil (ended_in stamp event))
+pub ended-push : (h : List Entry) (caller stamp : ℕ) (event : Event) → ended_stamps (h ++ entry caller stamp event ∷ []) ≡ ended_stamps h ++ ended_in stamp event
+unfolding ended_stamps
+ended-push h caller stamp event = flat_map-append (λ (e : Entry). ended_in e.stamp e.event) h (entry caller stamp event ∷ []) ∙ ap (λ es. ended_stamps h ++ es) (append-nil (ended_in stamp event))
 
 reads_from-push : (before h : List Entry) (caller stamp : ℕ) (event : Event) → reads_from before (h ++ entry caller stamp event ∷ []) ≡ reads_from before h ++ read_in (before ++ h) stamp event
 reads_from-push before [] caller stamp event = append-nil (read_in before stamp event) ∙ ap (λ b. read_in b stamp event) (sym (append-nil before))
@@ -111,12 +111,12 @@ counts-unique last bs a b counts (i, low, is) (j, high, at) same =
 
 -- ---- open stamps
 
-pub open-begun : (h : List Entry) (b : Begun) → IsOpen h b → Contains (begun h) b × (is_among b.stamp (ended h) ≡ false)
+pub open-begun : (h : List Entry) (b : Begun) → IsOpen h b → Contains (begun h) b × (is_among b.stamp (ended_stamps h) ≡ false)
 unfolding open_txns
 open-begun h b there =
-    let test : Begun → Bool = λ x. not (is_among x.stamp (ended h)) in (
+    let test : Begun → Bool = λ x. not (is_among x.stamp (ended_stamps h)) in (
       All-contains (Contains (begun h)) (filter test (begun h)) b (All-filter test (Contains (begun h)) (begun h) (All-contains_itself (begun h))) there,
-      not-true (is_among b.stamp (ended h)) (All-contains (λ x. test x ≡ true) (filter test (begun h)) b (filter_passes test (begun h)) there),
+      not-true (is_among b.stamp (ended_stamps h)) (All-contains (λ x. test x ≡ true) (filter test (begun h)) b (filter_passes test (begun h)) there),
     )
 
 pub filter-keeps : {X : Type 0} (p : X → Bool) (xs : List X) (x : X) → Contains xs x → p x ≡ true → Contains (filter p xs) x
@@ -128,9 +128,9 @@ filter-keeps p (y ∷ xs) x (suc k, lt, is) pass = by (filter-keeps p xs x (k, o
     by rest true = contains-tail y (filter p xs) x rest
     by rest false = rest
 
-pub begun-open : (h : List Entry) (b : Begun) → Contains (begun h) b → is_among b.stamp (ended h) ≡ false → IsOpen h b
+pub begun-open : (h : List Entry) (b : Begun) → Contains (begun h) b → is_among b.stamp (ended_stamps h) ≡ false → IsOpen h b
 unfolding open_txns
-begun-open h b there none = filter-keeps (λ x. not (is_among x.stamp (ended h))) (begun h) b there (rw none refl)
+begun-open h b there none = filter-keeps (λ x. not (is_among x.stamp (ended_stamps h))) (begun h) b there (rw none refl)
 
 uncommitted-by : (s stamp : ℕ) (es : List ℕ) (cs : List Commit) (event : Event) → (is_among s es ≡ false → lookup (λ n. eqb n s) cs ≡ None) → is_among s (ended_in stamp event ++ es) ≡ false → lookup (λ n. eqb n s) (committed_in stamp event ++ cs) ≡ None
 uncommitted-by s stamp es cs (Begin script) rest e = rest e
@@ -141,10 +141,10 @@ uncommitted-by s stamp es cs (Commits writes) rest e =
 uncommitted-by s stamp es cs Cancel rest e = rest (or_parts (eqb s stamp) (is_among s es) e).1
 
 -- a stamp that hasn't ended has no commit
-pub uncommitted : (h : List Entry) (s : ℕ) → is_among s (ended h) ≡ false → lookup (λ n. eqb n s) (commits h) ≡ None
-unfolding ended commits
+pub uncommitted : (h : List Entry) (s : ℕ) → is_among s (ended_stamps h) ≡ false → lookup (λ n. eqb n s) (commits h) ≡ None
+unfolding ended_stamps commits
 uncommitted [] s e = refl
-uncommitted (x ∷ h) s e = uncommitted-by s x.stamp (ended h) (commits h) x.event (uncommitted h s) e
+uncommitted (x ∷ h) s e = uncommitted-by s x.stamp (ended_stamps h) (commits h) x.event (uncommitted h s) e
 
 -- ---- what a history shows, part by part
 

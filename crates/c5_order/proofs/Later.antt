@@ -20,7 +20,7 @@ use Rattle.c5_definitions.specs.declared.history.Entry.{Entry}
 use Rattle.c5_definitions.specs.declared.history.Event.{Event}
 use Rattle.c5_definitions.specs.declared.history.Event.TheVariants.{Begin, Read, Commit as Commits, Cancel}
 use Rattle.c5_definitions.specs.declared.history.OrderBase.{OrderBase}
-use Rattle.c5_definitions.specs.History.{Begun, VersionRead, begun_in, committed_in, ended_in, begun, commits, ended, open_txns, last_begun, last_stamp, version_at, row_of_version, row_seen, read_in, reads, answered}
+use Rattle.c5_definitions.specs.History.{Begun, VersionRead, begun_in, committed_in, ended_in, begun, commits, ended_stamps, open_txns, last_begun, last_stamp, version_at, row_of_version, row_seen, read_in, reads, answered}
 use Rattle.c5_definitions.specs.OrderLog.{Conflict, reads_version, conflicts_on, conflicts, committed, committed_stamp, IsOpen, BeginsNext, Allows, AllowsFrom, IsOrderHistory}
 use Rattle.c5_order.specs.Transactions.{with_event, BeginsUnread, ReadAdds, OthersKeep, open_without, EndsOne, LastIsFree, CommitsStay, CommitCounts}
 use Rattle.c5_order.proofs.Versions.{Commit, lookup-more, lookup-push}
@@ -41,7 +41,7 @@ history-split : (base : OrderBase) (h g : List Entry) → IsOrderHistory base (h
 unfolding IsOrderHistory
 history-split base h g all = split-from base [] h g all
 
-open-is : (h : List Entry) → open_txns h ≡ filter (λ b. not (is_among b.stamp (ended h))) (begun h)
+open-is : (h : List Entry) → open_txns h ≡ filter (λ b. not (is_among b.stamp (ended_stamps h))) (begun h)
 unfolding open_txns
 open-is h = refl
 
@@ -58,7 +58,7 @@ other-stamp : (base : OrderBase) (h : List Entry) (a b : Begun) → SoundAt base
 other-stamp base h a b sound oa ob other same =
     other (ap (λ (x : Begun). x.caller) (counts-unique base.last (begun h) a b sound.counted (open-begun h a oa).0 (open-begun h b ob).0 (sym same)))
 
-open-from : (h g : List Entry) (b : Begun) (bs : List Begun) (es : List ℕ) → begun g ≡ begun h ++ bs → ended g ≡ ended h ++ es → is_among b.stamp (ended h ++ es) ≡ false → IsOpen h b → IsOpen g b
+open-from : (h g : List Entry) (b : Begun) (bs : List Begun) (es : List ℕ) → begun g ≡ begun h ++ bs → ended_stamps g ≡ ended_stamps h ++ es → is_among b.stamp (ended_stamps h ++ es) ≡ false → IsOpen h b → IsOpen g b
 open-from h g b bs es e f none is_open =
     begun-open g b (subst (λ x. Contains x b) (sym e) (Contains-append_left (begun h) bs b (open-begun h b is_open).0)) (subst (λ x. is_among b.stamp x ≡ false) (sym f) none)
 
@@ -73,13 +73,13 @@ answers-from start h g s more new e f versions none =
 none-more : (s : ℕ) (es : List ℕ) → is_among s es ≡ false → is_among s (es ++ []) ≡ false
 none-more s es e = subst (λ x. is_among s x ≡ false) (sym (append-nil es)) e
 
-others-ended : (base : OrderBase) (h : List Entry) (b : Begun) (caller stamp : ℕ) (event : Event) → SoundAt base h → IsOpen h b → (caller ≡ b.caller → ⊥) → Allows base h caller stamp event → is_among b.stamp (ended h ++ ended_in stamp event) ≡ false
-others-ended base h b caller stamp (Begin script) sound is_open other allowed = none-more b.stamp (ended h) (open-begun h b is_open).1
-others-ended base h b caller stamp (Read name) sound is_open other allowed = none-more b.stamp (ended h) (open-begun h b is_open).1
+others-ended : (base : OrderBase) (h : List Entry) (b : Begun) (caller stamp : ℕ) (event : Event) → SoundAt base h → IsOpen h b → (caller ≡ b.caller → ⊥) → Allows base h caller stamp event → is_among b.stamp (ended_stamps h ++ ended_in stamp event) ≡ false
+others-ended base h b caller stamp (Begin script) sound is_open other allowed = none-more b.stamp (ended_stamps h) (open-begun h b is_open).1
+others-ended base h b caller stamp (Read name) sound is_open other allowed = none-more b.stamp (ended_stamps h) (open-begun h b is_open).1
 others-ended base h b caller stamp (Commits writes) sound is_open other allowed =
-    among-other b.stamp stamp (ended h) (open-begun h b is_open).1 (other-stamp base h (record { caller = caller; stamp = stamp; script = allowed.0 }) b sound allowed.1 is_open other)
+    among-other b.stamp stamp (ended_stamps h) (open-begun h b is_open).1 (other-stamp base h (record { caller = caller; stamp = stamp; script = allowed.0 }) b sound allowed.1 is_open other)
 others-ended base h b caller stamp Cancel sound is_open other allowed =
-    among-other b.stamp stamp (ended h) (open-begun h b is_open).1 (other-stamp base h (record { caller = caller; stamp = stamp; script = allowed.0 }) b sound allowed.1 is_open other)
+    among-other b.stamp stamp (ended_stamps h) (open-begun h b is_open).1 (other-stamp base h (record { caller = caller; stamp = stamp; script = allowed.0 }) b sound allowed.1 is_open other)
 
 others-read : (base : OrderBase) (h : List Entry) (b : Begun) (caller stamp : ℕ) (event : Event) → SoundAt base h → IsOpen h b → (caller ≡ b.caller → ⊥) → Allows base h caller stamp event → filter (λ r. eqb r.reader b.stamp) (read_in h stamp event) ≡ []
 others-read base h b caller stamp (Begin script) sound is_open other allowed = refl
@@ -95,7 +95,7 @@ keeps-step : (base : OrderBase) (h : List Entry) (b : Begun) (caller stamp : ℕ
 keeps-step base h b caller stamp event sound is_open other allowed =
     let g = h ++ entry caller stamp event ∷ [] in (
       open-from h g b (begun_in caller stamp event) (ended_in stamp event) (begun-push h caller stamp event) (ended-push h caller stamp event) (others-ended base h b caller stamp event sound is_open other allowed) is_open,
-      answers-from base.start h g b.stamp (committed_in stamp event) (read_in h stamp event) (commits-push h caller stamp event) (reads-push h caller stamp event) (read-version base (begun h) (commits h) (ended h) (reads h) sound) (others-read base h b caller stamp event sound is_open other allowed),
+      answers-from base.start h g b.stamp (committed_in stamp event) (read_in h stamp event) (commits-push h caller stamp event) (reads-push h caller stamp event) (read-version base (begun h) (commits h) (ended_stamps h) (reads h) sound) (others-read base h b caller stamp event sound is_open other allowed),
     )
 
 keeps-all : (base : OrderBase) (h more : List Entry) (b : Begun) → IsOrderHistory base h → AllowsFrom base h more → IsOpen h b → All (λ e. e.caller ≡ b.caller → ⊥) more → Keeps base.start h (h ++ more) b
@@ -121,9 +121,9 @@ row-seen-is : (start : State) (h : List Entry) (name : RowName) (s : ℕ) → ro
 unfolding row_seen row_of_version
 row-seen-is start h name s = refl
 
-same-open : (h g : List Entry) → begun g ≡ begun h → ended g ≡ ended h → open_txns g ≡ open_txns h
+same-open : (h g : List Entry) → begun g ≡ begun h → ended_stamps g ≡ ended_stamps h → open_txns g ≡ open_txns h
 same-open h g e f =
-    open-is g ∙ ap (λ bs. filter (λ b. not (is_among b.stamp (ended g))) bs) e ∙ ap (λ es. filter (λ b. not (is_among b.stamp es)) (begun h)) f ∙ sym (open-is h)
+    open-is g ∙ ap (λ bs. filter (λ b. not (is_among b.stamp (ended_stamps g))) bs) e ∙ ap (λ es. filter (λ b. not (is_among b.stamp es)) (begun h)) f ∙ sym (open-is h)
 
 same-last : (last : ℕ) (h g : List Entry) → begun g ≡ begun h → last_stamp last g ≡ last_stamp last h
 same-last last h g e = last_stamp-is last g ∙ ap (last_begun last) e ∙ sym (last_stamp-is last h)
@@ -133,7 +133,7 @@ read-adds start h b name is_open =
     let g = h ++ entry b.caller b.stamp (Read name) ∷ [] in
     let r : VersionRead = record { reader = b.stamp; name = name; version = version_at h name b.stamp } in
     let bs : begun g ≡ begun h = begun-push h b.caller b.stamp (Read name) ∙ append-nil (begun h) in
-    let es : ended g ≡ ended h = ended-push h b.caller b.stamp (Read name) ∙ append-nil (ended h) in
+    let es : ended_stamps g ≡ ended_stamps h = ended-push h b.caller b.stamp (Read name) ∙ append-nil (ended_stamps h) in
     let cs : commits g ≡ commits h = commits-push h b.caller b.stamp (Read name) ∙ append-nil (commits h) in
     let rs : reads g ≡ reads h ++ r ∷ [] = reads-push h b.caller b.stamp (Read name) in
     let o = open-begun h b is_open in (
@@ -196,19 +196,19 @@ begins-unread base h b all =
     let s = history-split base h (entry b.caller b.stamp (Begin b.script) ∷ []) all in
     let next = (s.1.0).next in
     let sound = sound-history base h s.0 in
-    let fresh : is_among b.stamp (ended h) ≡ false = fresh-unended base h b.stamp sound next in
+    let fresh : is_among b.stamp (ended_stamps h) ≡ false = fresh-unended base h b.stamp sound next in
     let bs : begun g ≡ begun h ++ b ∷ [] = begun-push h b.caller b.stamp (Begin b.script) in
-    let es : ended g ≡ ended h = ended-push h b.caller b.stamp (Begin b.script) ∙ append-nil (ended h) in
+    let es : ended_stamps g ≡ ended_stamps h = ended-push h b.caller b.stamp (Begin b.script) ∙ append-nil (ended_stamps h) in
     let rs : reads g ≡ reads h = reads-push h b.caller b.stamp (Begin b.script) ∙ append-nil (reads h) in
     let below = All-weaker (λ r. r.reader ≤ last_stamp base.last h) (λ r. r.reader < b.stamp) (λ r low. omega (arith, low, next)) (reads h) (readers-low base h s.0) in
     let test : List ℕ → Begun → Bool = λ ends x. not (is_among x.stamp ends) in
-    let last : filter (test (ended h)) (b ∷ []) ≡ b ∷ [] = rw fresh refl in (
+    let last : filter (test (ended_stamps h)) (b ∷ []) ≡ b ∷ [] = rw fresh refl in (
       begun-open g b (subst (λ x. Contains x b) (sym bs) (Contains-push (begun h) b)) (subst (λ x. is_among b.stamp x ≡ false) (sym es) fresh),
       answered-is base.start g b.stamp
           ∙ ap (λ x. answers_in base.start (commits g) x b.stamp) rs
           ∙ ap (map (λ r. (r.name, row_in base.start (commits g) r.name r.version))) (none-reads b.stamp (reads h) below),
-      open-is g ∙ ap (λ x. filter (test (ended g)) x) bs ∙ ap (λ x. filter (test x) (begun h ++ b ∷ [])) es
-          ∙ filter-append (test (ended h)) (begun h) (b ∷ []) ∙ ap (λ x. filter (test (ended h)) (begun h) ++ x) last ∙ ap (λ x. x ++ b ∷ []) (sym (open-is h)),
+      open-is g ∙ ap (λ x. filter (test (ended_stamps g)) x) bs ∙ ap (λ x. filter (test x) (begun h ++ b ∷ [])) es
+          ∙ filter-append (test (ended_stamps h)) (begun h) (b ∷ []) ∙ ap (λ x. filter (test (ended_stamps h)) (begun h) ++ x) last ∙ ap (λ x. x ++ b ∷ []) (sym (open-is h)),
       last_stamp-is base.last g ∙ ap (last_begun base.last) bs ∙ last_begun-push base.last (begun h) b,
     )
 
@@ -227,10 +227,10 @@ ends-filter s es (b ∷ bs) =
     by false true e rest = rw e rest
     by false false e rest = rw e (ap (λ xs. b ∷ xs) rest)
 
-ends-open : (h g : List Entry) (s : ℕ) → begun g ≡ begun h → ended g ≡ ended h ++ s ∷ [] → open_txns g ≡ open_without s h
+ends-open : (h g : List Entry) (s : ℕ) → begun g ≡ begun h → ended_stamps g ≡ ended_stamps h ++ s ∷ [] → open_txns g ≡ open_without s h
 ends-open h g s e f =
-    open-is g ∙ ap (λ bs. filter (λ b. not (is_among b.stamp (ended g))) bs) e ∙ ap (λ es. filter (λ b. not (is_among b.stamp es)) (begun h)) f
-    ∙ ends-filter s (ended h) (begun h) ∙ ap (λ bs. filter (λ b. not (eqb b.stamp s)) bs) (sym (open-is h))
+    open-is g ∙ ap (λ bs. filter (λ b. not (is_among b.stamp (ended_stamps g))) bs) e ∙ ap (λ es. filter (λ b. not (is_among b.stamp es)) (begun h)) f
+    ∙ ends-filter s (ended_stamps h) (begun h) ∙ ap (λ bs. filter (λ b. not (eqb b.stamp s)) bs) (sym (open-is h))
 
 pub ends-one : EndsOne
 ends-one h b writes =

@@ -14,7 +14,7 @@ use Rattle.c5_rows.specs.declared.writes.Txn.{Txn}
 use Rattle.c5_definitions.specs.declared.history.Entry.{Entry}
 use Rattle.c5_definitions.specs.declared.history.Event.{Event}
 use Rattle.c5_definitions.specs.declared.history.Event.TheVariants.{Begin, Read, Commit as Commits, Cancel}
-use Rattle.c5_definitions.specs.History.{Begun, begun, commits, ended, open_txns}
+use Rattle.c5_definitions.specs.History.{Begun, begun, commits, ended_stamps, open_txns}
 use Rattle.c5_rows.specs.Numbers.{is_among}
 use Rattle.c5_definitions.specs.OrderLog.{txn_of, committed, history_log, IsOpen}
 use Rattle.c5_order.specs.declared.book.TxnState.{TxnState}
@@ -104,9 +104,9 @@ among-found s (b ∷ bs) e = elim (or_cases (eqb s b.stamp) (is_among s (map (λ
 pub open-of : (book : Book) (s : ℕ) → HoldsBook book → contains nat_cmp book.open_stamps s ≡ true → (b : Begun) × IsOpen book.history.items b × (b.stamp ≡ s)
 open-of book s holds has =
     let h = book.history.items in
-    let p = and_parts (is_among s (map (λ x. x.stamp) (begun h))) (not (is_among s (ended h))) (sym (holds.opened s) ∙ has) in
+    let p = and_parts (is_among s (map (λ x. x.stamp) (begun h))) (not (is_among s (ended_stamps h))) (sym (holds.opened s) ∙ has) in
     let b = among-found s (begun h) p.0 in
-    (b.0, begun-open h b.0 b.1 (ap (λ n. is_among n (ended h)) b.2 ∙ not-true (is_among s (ended h)) p.1), b.2)
+    (b.0, begun-open h b.0 b.1 (ap (λ n. is_among n (ended_stamps h)) b.2 ∙ not-true (is_among s (ended_stamps h)) p.1), b.2)
 
 gt-false : (a b : ℕ) → is_gt (nat_cmp a b) ≡ false → a ≤ b
 gt-false a b e = elim (cases_order a b) [

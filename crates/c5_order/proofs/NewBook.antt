@@ -9,7 +9,7 @@ use Rattle.std.specs.BTreeSet.{contains}
 use Rattle.std.specs.Vec.{vec_len}
 use Rattle.c5_definitions.specs.declared.history.Entry.{Entry}
 use Rattle.c5_definitions.specs.declared.history.OrderBase.{OrderBase}
-use Rattle.c5_definitions.specs.History.{Begun, begun, commits, ended, last_stamp, reads}
+use Rattle.c5_definitions.specs.History.{Begun, begun, commits, ended_stamps, last_stamp, reads}
 use Rattle.c5_definitions.specs.OrderLog.{IsOrderHistory}
 use Rattle.c5_order.specs.declared.marks.VersionKey.{VersionKey}
 use Rattle.c5_order.specs.declared.book.TxnState.{TxnState}
@@ -28,11 +28,11 @@ none-marked m empty = record {
 }
 
 first-open : (o : ℕ → Bool) → ((q : ℕ) → o q ≡ false) → (q : ℕ) → o q ≡ is_open q []
-unfolding begun ended
+unfolding begun ended_stamps
 first-open o none q = none q
 
 first-parts : (base : OrderBase) (o : ℕ → Bool) (sts : List BodyState) (m : BTreeMap VersionKey ℕ) → ((q : ℕ) → o q ≡ false) → length sts ≡ length base.bodies → ((n : ℕ) → get_or sts n Free ≡ Free) → m.entries ≡ [] → Parts base base.last [] [] o sts m
-unfolding begun commits ended last_stamp reads IsOrderHistory
+unfolding begun commits ended_stamps last_stamp reads IsOrderHistory
 first-parts base o sts m none count free empty = record {
   allowed = tt;
   last_is = refl;

@@ -17,7 +17,7 @@ use Rattle.c5_definitions.specs.declared.history.Entry.{Entry}
 use Rattle.c5_definitions.specs.declared.history.Event.{Event}
 use Rattle.c5_definitions.specs.declared.history.Event.TheVariants.{Begin, Read, Commit as Commits, Cancel}
 use Rattle.c5_definitions.specs.declared.history.OrderBase.{OrderBase}
-use Rattle.c5_definitions.specs.History.{Begun, VersionRead, begun, commits, ended, last_begun, last_stamp, reads, version_at, open_txns}
+use Rattle.c5_definitions.specs.History.{Begun, VersionRead, begun, commits, ended_stamps, last_begun, last_stamp, reads, version_at, open_txns}
 use Rattle.c5_rows.specs.Numbers.{is_among}
 use Rattle.c5_definitions.specs.OrderLog.{conflicts, committed, committed_stamp, open_stamp, IsOpen, IsOutcome, BeginsNext, Allows, IsOrderHistory}
 use Rattle.c5_order.specs.declared.marks.VersionKey.{VersionKey}
@@ -79,7 +79,7 @@ among-map (x ∷ bs) b (suc k, lt, is) = or_right (eqb b.stamp x.stamp) (is_amon
 pub is-open-true : (h : List Entry) (b : Begun) → IsOpen h b → is_open b.stamp h ≡ true
 is-open-true h b is_open_b =
     let o = open-begun h b is_open_b in
-    and_from (is_among b.stamp (map (λ x. x.stamp) (begun h))) (not (is_among b.stamp (ended h))) (among-map (begun h) b o.0) (ap not o.1)
+    and_from (is_among b.stamp (map (λ x. x.stamp) (begun h))) (not (is_among b.stamp (ended_stamps h))) (among-map (begun h) b o.0) (ap not o.1)
 
 -- the stamp is among the open ones
 pub stamp-open : (book : Book) (b : Begun) (stamp : ℕ) → HoldsBook book → IsOpen book.history.items b → b.stamp ≡ stamp → contains nat_cmp book.open_stamps stamp ≡ true
@@ -93,12 +93,12 @@ cancel-parts base last h ts o p sts m b parts is_open_b is_p = record {
   allowed = history-push base h b.caller b.stamp Cancel parts.allowed (b.script, is_open_b);
   last_is = parts.last_is ∙ sym (last-same base.last h g bs);
   txns = subst (λ x. AllZip (HoldsTxn g) x ts) (sym bs) (txns-more h (entry b.caller b.stamp Cancel) (begun h) ts cs parts.txns);
-  opened = λ q. is_p q ∙ ap (cond (is_at (nat_cmp b.stamp) q) false) (parts.opened q) ∙ open-ends q b.stamp (map (λ x. x.stamp) (begun h)) (ended h)
-      ∙ ap (λ x. is_among q (map (λ y. y.stamp) x) && not (is_among q (ended h ++ b.stamp ∷ []))) (sym bs) ∙ ap (λ x. is_among q (map (λ y. y.stamp) (begun g)) && not (is_among q x)) (sym es);
+  opened = λ q. is_p q ∙ ap (cond (is_at (nat_cmp b.stamp) q) false) (parts.opened q) ∙ open-ends q b.stamp (map (λ x. x.stamp) (begun h)) (ended_stamps h)
+      ∙ ap (λ x. is_among q (map (λ y. y.stamp) x) && not (is_among q (ended_stamps h ++ b.stamp ∷ []))) (sym bs) ∙ ap (λ x. is_among q (map (λ y. y.stamp) (begun g)) && not (is_among q x)) (sym es);
   count = set-length sts b.script Free ∙ parts.count;
   states = λ n lt. states-set (HoldsState h) (HoldsState g) sts b.script Free known
-      (state-out g b.script Free (along b.script Free (state-free base (begun h) (commits h) (ended h) (reads h) sound b there.0 there.1 (uncommitted h b.stamp there.1))))
-      (λ k st other holds. state-out g k st (along k st (state-cancel base (begun h) (commits h) (ended h) (reads h) sound b there.0 there.1 (uncommitted h b.stamp there.1) k st other (state-in h k st holds))))
+      (state-out g b.script Free (along b.script Free (state-free base (begun h) (commits h) (ended_stamps h) (reads h) sound b there.0 there.1 (uncommitted h b.stamp there.1))))
+      (λ k st other holds. state-out g k st (along k st (state-cancel base (begun h) (commits h) (ended_stamps h) (reads h) sound b there.0 there.1 (uncommitted h b.stamp there.1) k st other (state-in h k st holds))))
       parts.states n (subst (λ k. n < k) (set-length sts b.script Free) lt);
   marks = marks-same h g m cs rs parts.marks;
 } where
@@ -111,7 +111,7 @@ cancel-parts base last h ts o p sts m b parts is_open_b is_p = record {
   cs : commits (h ++ entry b.caller b.stamp Cancel ∷ []) ≡ commits h
   cs = commits-push h b.caller b.stamp Cancel ∙ append-nil (commits h)
 
-  es : ended (h ++ entry b.caller b.stamp Cancel ∷ []) ≡ ended h ++ b.stamp ∷ []
+  es : ended_stamps (h ++ entry b.caller b.stamp Cancel ∷ []) ≡ ended_stamps h ++ b.stamp ∷ []
   es = ended-push h b.caller b.stamp Cancel
 
   rs : reads (h ++ entry b.caller b.stamp Cancel ∷ []) ≡ reads h
@@ -120,14 +120,14 @@ cancel-parts base last h ts o p sts m b parts is_open_b is_p = record {
   sound : SoundAt base h
   sound = sound-parts base last h ts o sts m parts
 
-  there : Contains (begun h) b × (is_among b.stamp (ended h) ≡ false)
+  there : Contains (begun h) b × (is_among b.stamp (ended_stamps h) ≡ false)
   there = open-begun h b is_open_b
 
   known : b.script < length sts
   known = subst (λ n. b.script < n) (sym parts.count) (All-contains (λ b. b.script < length base.bodies) (begun h) b sound.known there.0)
 
-  along : (n : ℕ) (st : BodyState) → StateIn (begun h) (commits h) (ended h ++ b.stamp ∷ []) n st → StateIn (begun g) (commits g) (ended g) n st
-  along n st = state-along (begun h) (begun g) (commits h) (commits g) (ended h ++ b.stamp ∷ []) (ended g) n st (sym bs) (sym cs) (sym es)
+  along : (n : ℕ) (st : BodyState) → StateIn (begun h) (commits h) (ended_stamps h ++ b.stamp ∷ []) n st → StateIn (begun g) (commits g) (ended_stamps g) n st
+  along n st = state-along (begun h) (begun g) (commits h) (commits g) (ended_stamps h ++ b.stamp ∷ []) (ended_stamps g) n st (sym bs) (sym cs) (sym es)
 
 pub cancel-book : (base : OrderBase) (last : ℕ) (h new : List Entry) (ts : List TxnState) (o p : ℕ → Bool) (sts : List BodyState) (m : BTreeMap VersionKey ℕ) (b : Begun) (t : TxnState) (stamp : ℕ)
     → Parts base last h ts o sts m → IsOpen h b → b.stamp ≡ stamp → HoldsTxn h b t → new ≡ h ++ entry t.caller stamp Cancel ∷ [] → ((q : ℕ) → p q ≡ cond (is_at (nat_cmp stamp) q) false (o q)) → Parts base last new ts p (set sts t.script Free) m
@@ -145,9 +145,9 @@ read-parts base last h ts o sts m n b name parts is_open_b has is_n = record {
   allowed = history-push base h b.caller b.stamp (Read name) parts.allowed (b.script, is_open_b);
   last_is = parts.last_is ∙ sym (last-same base.last h g bs);
   txns = subst (λ x. AllZip (HoldsTxn g) x ts) (sym bs) (txns-more h (entry b.caller b.stamp (Read name)) (begun h) ts cs parts.txns);
-  opened = λ q. parts.opened q ∙ ap (λ x. is_among q (map (λ y. y.stamp) x) && not (is_among q (ended h))) (sym bs) ∙ ap (λ x. is_among q (map (λ y. y.stamp) (begun g)) && not (is_among q x)) (sym es);
+  opened = λ q. parts.opened q ∙ ap (λ x. is_among q (map (λ y. y.stamp) x) && not (is_among q (ended_stamps h))) (sym bs) ∙ ap (λ x. is_among q (map (λ y. y.stamp) (begun g)) && not (is_among q x)) (sym es);
   count = parts.count;
-  states = λ k lt. state-out g k (get_or sts k Free) (state-along (begun h) (begun g) (commits h) (commits g) (ended h) (ended g) k (get_or sts k Free) (sym bs) (sym cs) (sym es) (state-in h k (get_or sts k Free) (parts.states k lt)));
+  states = λ k lt. state-out g k (get_or sts k Free) (state-along (begun h) (begun g) (commits h) (commits g) (ended_stamps h) (ended_stamps g) k (get_or sts k Free) (sym bs) (sym cs) (sym es) (state-in h k (get_or sts k Free) (parts.states k lt)));
   marks = marks-read h g m n (record { reader = b.stamp; name = name; version = version_at h name b.stamp }) cs (reads-push h b.caller b.stamp (Read name)) has is_n parts.marks;
 } where
   g : List Entry
@@ -159,8 +159,8 @@ read-parts base last h ts o sts m n b name parts is_open_b has is_n = record {
   cs : commits (h ++ entry b.caller b.stamp (Read name) ∷ []) ≡ commits h
   cs = commits-push h b.caller b.stamp (Read name) ∙ append-nil (commits h)
 
-  es : ended (h ++ entry b.caller b.stamp (Read name) ∷ []) ≡ ended h
-  es = ended-push h b.caller b.stamp (Read name) ∙ append-nil (ended h)
+  es : ended_stamps (h ++ entry b.caller b.stamp (Read name) ∷ []) ≡ ended_stamps h
+  es = ended-push h b.caller b.stamp (Read name) ∙ append-nil (ended_stamps h)
 
 -- ---- a begin
 
@@ -175,10 +175,10 @@ map-push [] b = refl
 map-push (x ∷ bs) b = ap (λ ns. x.stamp ∷ ns) (map-push bs b)
 
 -- a stamp above the last one has not ended, and has no commit
-pub fresh-unended : (base : OrderBase) (h : List Entry) (s : ℕ) → SoundAt base h → s ≡ last_stamp base.last h + 1 → is_among s (ended h) ≡ false
-fresh-unended base h s sound next = list_any_none (λ m. eqb s m) (ended h)
+pub fresh-unended : (base : OrderBase) (h : List Entry) (s : ℕ) → SoundAt base h → s ≡ last_stamp base.last h + 1 → is_among s (ended_stamps h) ≡ false
+fresh-unended base h s sound next = list_any_none (λ m. eqb s m) (ended_stamps h)
     (All-weaker (λ t. (b : Begun) × Contains (begun h) b × (b.stamp ≡ t)) (λ t. eqb s t ≡ false)
-    (λ t f. let w = counts-within base.last (begun h) f.0 sound.counted f.1 in ne_eqb s t (λ same. omega (arith, f.2, w.1, last_stamp-is base.last h))) (ended h) sound.ended_begun)
+    (λ t f. let w = counts-within base.last (begun h) f.0 sound.counted f.1 in ne_eqb s t (λ same. omega (arith, f.2, w.1, last_stamp-is base.last h))) (ended_stamps h) sound.ended_begun)
 
 pub begin-parts : (base : OrderBase) (last : ℕ) (h : List Entry) (ts : List TxnState) (o p : ℕ → Bool) (sts : List BodyState) (m : BTreeMap VersionKey ℕ) (caller stamp script : ℕ)
     → Parts base last h ts o sts m → script < length base.bodies → HoldsState h script Free → stamp ≡ last + 1 → stamp < 2 ^ 64 → ((q : ℕ) → p q ≡ cond (is_at (nat_cmp stamp) q) true (o q))
@@ -195,13 +195,13 @@ begin-parts base last h ts o p sts m caller stamp script parts known free next f
   txns = subst (λ x. AllZip (HoldsTxn g) x (ts ++ record { caller = caller; script = script; place = None } ∷ [])) (sym bs)
       (zip-push (HoldsTxn g) (begun h) ts b (record { caller = caller; script = script; place = None }) (txns-more h (entry caller stamp (Begin script)) (begun h) ts cs parts.txns)
       (record { caller = refl; script = refl; place = ap (λ c. lookup (λ n. eqb n stamp) c) cs ∙ uncommitted h stamp unended }));
-  opened = λ q. is_p q ∙ ap (cond (is_at (nat_cmp stamp) q) true) (parts.opened q) ∙ open-begins q stamp (map (λ x. x.stamp) (begun h)) (ended h) unended
-      ∙ ap (λ x. is_among q x && not (is_among q (ended h))) (sym (ap (map (λ y. y.stamp)) bs ∙ map-push (begun h) b)) ∙ ap (λ x. is_among q (map (λ y. y.stamp) (begun g)) && not (is_among q x)) (sym es);
+  opened = λ q. is_p q ∙ ap (cond (is_at (nat_cmp stamp) q) true) (parts.opened q) ∙ open-begins q stamp (map (λ x. x.stamp) (begun h)) (ended_stamps h) unended
+      ∙ ap (λ x. is_among q x && not (is_among q (ended_stamps h))) (sym (ap (map (λ y. y.stamp)) bs ∙ map-push (begun h) b)) ∙ ap (λ x. is_among q (map (λ y. y.stamp) (begun g)) && not (is_among q x)) (sym es);
   count = set-length sts script (Open stamp) ∙ parts.count;
   states = λ n lt. states-set (HoldsState h) (HoldsState g) sts script (Open stamp) (subst (λ n. script < n) (sym parts.count) known)
       (b, begun-open g b (subst (λ x. Contains x b) (sym bs) (Contains-push (begun h) b)) (ap (is_among stamp) es ∙ unended), refl, refl)
-      (λ k st other holds. state-out g k st (state-along (begun h ++ b ∷ []) (begun g) (commits h) (commits g) (ended h) (ended g) k st (sym bs) (sym cs) (sym es)
-      (state-begin (begun h) (commits h) (ended h) b k st (λ same. other (sym same)) (state-in h k st holds))))
+      (λ k st other holds. state-out g k st (state-along (begun h ++ b ∷ []) (begun g) (commits h) (commits g) (ended_stamps h) (ended_stamps g) k st (sym bs) (sym cs) (sym es)
+      (state-begin (begun h) (commits h) (ended_stamps h) b k st (λ same. other (sym same)) (state-in h k st holds))))
       parts.states n (subst (λ k. n < k) (set-length sts script (Open stamp)) lt);
   marks = marks-same h g m cs rs parts.marks;
 } where
@@ -217,8 +217,8 @@ begin-parts base last h ts o p sts m caller stamp script parts known free next f
   cs : commits (h ++ entry caller stamp (Begin script) ∷ []) ≡ commits h
   cs = commits-push h caller stamp (Begin script) ∙ append-nil (commits h)
 
-  es : ended (h ++ entry caller stamp (Begin script) ∷ []) ≡ ended h
-  es = ended-push h caller stamp (Begin script) ∙ append-nil (ended h)
+  es : ended_stamps (h ++ entry caller stamp (Begin script) ∷ []) ≡ ended_stamps h
+  es = ended-push h caller stamp (Begin script) ∙ append-nil (ended_stamps h)
 
   rs : reads (h ++ entry caller stamp (Begin script) ∷ []) ≡ reads h
   rs = reads-push h caller stamp (Begin script) ∙ append-nil (reads h)
@@ -229,7 +229,7 @@ begin-parts base last h ts o p sts m caller stamp script parts known free next f
   at : stamp ≡ last_stamp base.last h + 1
   at = next ∙ ap (λ n. n + 1) parts.last_is
 
-  unended : is_among stamp (ended h) ≡ false
+  unended : is_among stamp (ended_stamps h) ≡ false
   unended = fresh-unended base h stamp sound at
 
 -- ---- a commit
@@ -263,12 +263,12 @@ commit-parts base last h ts o p sts m n b k writes parts is_open_b at outcome as
         script = refl;
         place = (b.caller, writes, at_end h (entry b.caller b.stamp (Commits writes)), found);
       })) parts.txns);
-  opened = λ q. is_p q ∙ ap (cond (is_at (nat_cmp b.stamp) q) false) (parts.opened q) ∙ open-ends q b.stamp (map (λ x. x.stamp) (begun h)) (ended h)
-      ∙ ap (λ x. is_among q (map (λ y. y.stamp) x) && not (is_among q (ended h ++ b.stamp ∷ []))) (sym bs) ∙ ap (λ x. is_among q (map (λ y. y.stamp) (begun g)) && not (is_among q x)) (sym es);
+  opened = λ q. is_p q ∙ ap (cond (is_at (nat_cmp b.stamp) q) false) (parts.opened q) ∙ open-ends q b.stamp (map (λ x. x.stamp) (begun h)) (ended_stamps h)
+      ∙ ap (λ x. is_among q (map (λ y. y.stamp) x) && not (is_among q (ended_stamps h ++ b.stamp ∷ []))) (sym bs) ∙ ap (λ x. is_among q (map (λ y. y.stamp) (begun g)) && not (is_among q x)) (sym es);
   count = set-length sts b.script (Committed b.stamp) ∙ parts.count;
   states = λ i lt. states-set (HoldsState h) (HoldsState g) sts b.script (Committed b.stamp) (subst (λ n. b.script < n) (sym parts.count) (All-contains (λ b. b.script < length base.bodies) (begun h) b sound.known open_b.0))
-      (state-out g b.script (Committed b.stamp) (along b.script (Committed b.stamp) (state-committed base (begun h) (commits h) (ended h) (reads h) sound b open_b.0 open_b.1 unsaid writes)))
-      (λ j st other holds. state-out g j st (along j st (state-commit base (begun h) (commits h) (ended h) (reads h) sound b open_b.0 open_b.1 unsaid writes j st other (state-in h j st holds))))
+      (state-out g b.script (Committed b.stamp) (along b.script (Committed b.stamp) (state-committed base (begun h) (commits h) (ended_stamps h) (reads h) sound b open_b.0 open_b.1 unsaid writes)))
+      (λ j st other holds. state-out g j st (along j st (state-commit base (begun h) (commits h) (ended_stamps h) (reads h) sound b open_b.0 open_b.1 unsaid writes j st other (state-in h j st holds))))
       parts.states i (subst (λ n. i < n) (set-length sts b.script (Committed b.stamp)) lt);
   marks = marks-commit h g m n b.stamp writes cs rs (omega (arith, (counts-within base.last (begun h) b sound.counted open_b.0).0)) unsaid is_n parts.marks;
 } where
@@ -284,7 +284,7 @@ commit-parts base last h ts o p sts m n b k writes parts is_open_b at outcome as
   cs : commits (h ++ entry b.caller b.stamp (Commits writes) ∷ []) ≡ commits h ++ (b.stamp, writes) ∷ []
   cs = commits-push h b.caller b.stamp (Commits writes)
 
-  es : ended (h ++ entry b.caller b.stamp (Commits writes) ∷ []) ≡ ended h ++ b.stamp ∷ []
+  es : ended_stamps (h ++ entry b.caller b.stamp (Commits writes) ∷ []) ≡ ended_stamps h ++ b.stamp ∷ []
   es = ended-push h b.caller b.stamp (Commits writes)
 
   rs : reads (h ++ entry b.caller b.stamp (Commits writes) ∷ []) ≡ reads h
@@ -293,7 +293,7 @@ commit-parts base last h ts o p sts m n b k writes parts is_open_b at outcome as
   sound : SoundAt base h
   sound = sound-parts base last h ts o sts m parts
 
-  open_b : Contains (begun h) b × (is_among b.stamp (ended h) ≡ false)
+  open_b : Contains (begun h) b × (is_among b.stamp (ended_stamps h) ≡ false)
   open_b = open-begun h b is_open_b
 
   unsaid : lookup (λ n. eqb n b.stamp) (commits h) ≡ None
@@ -302,8 +302,8 @@ commit-parts base last h ts o p sts m n b k writes parts is_open_b at outcome as
   found : lookup (λ n. eqb n b.stamp) (commits (h ++ entry b.caller b.stamp (Commits writes) ∷ [])) ≡ Some writes
   found = ap (λ c. lookup (λ n. eqb n b.stamp) c) cs ∙ lookup-push b.stamp (commits h) (b.stamp, writes) unsaid ∙ ap (λ t. cond t (Some writes) None) (eq-eqb b.stamp b.stamp refl)
 
-  along : (i : ℕ) (st : BodyState) → StateIn (begun h) (commits h ++ (b.stamp, writes) ∷ []) (ended h ++ b.stamp ∷ []) i st → StateIn (begun g) (commits g) (ended g) i st
-  along i st = state-along (begun h) (begun g) (commits h ++ (b.stamp, writes) ∷ []) (commits g) (ended h ++ b.stamp ∷ []) (ended g) i st (sym bs) (sym cs) (sym es)
+  along : (i : ℕ) (st : BodyState) → StateIn (begun h) (commits h ++ (b.stamp, writes) ∷ []) (ended_stamps h ++ b.stamp ∷ []) i st → StateIn (begun g) (commits g) (ended_stamps g) i st
+  along i st = state-along (begun h) (begun g) (commits h ++ (b.stamp, writes) ∷ []) (commits g) (ended_stamps h ++ b.stamp ∷ []) (ended_stamps g) i st (sym bs) (sym cs) (sym es)
 
 pub begin-book : (base : OrderBase) (last : ℕ) (h new : List Entry) (ts us : List TxnState) (o p : ℕ → Bool) (sts : List BodyState) (m : BTreeMap VersionKey ℕ) (caller script : ℕ)
     → Parts base last h ts o sts m → script < length base.bodies → HoldsState h script Free → last + 1 < 2 ^ 64 → ((q : ℕ) → p q ≡ cond (is_at (nat_cmp (last + 1)) q) true (o q))

@@ -13,7 +13,7 @@ use Rattle.c5_rows.specs.declared.writes.Write.{Write}
 use Rattle.c5_rows.specs.Order.{row_name_cmp, row_name_cmp_total}
 use Rattle.c5_definitions.specs.declared.history.Entry.{Entry}
 use Rattle.c5_definitions.specs.declared.history.OrderBase.{OrderBase}
-use Rattle.c5_definitions.specs.History.{Begun, VersionRead, begun, commits, ended, reads, version_in, version_at, writes_row}
+use Rattle.c5_definitions.specs.History.{Begun, VersionRead, begun, commits, ended_stamps, reads, version_in, version_at, writes_row}
 use Rattle.c5_order.specs.declared.marks.VersionKey.{VersionKey}
 use Rattle.c5_order.specs.declared.marks.Found.{Found}
 use Rattle.c5_order.specs.Marks.{version_key_cmp, version_key, noted_mark, IsMarkFoundBefore, marked, mark_after_install}
@@ -173,7 +173,7 @@ found-some : (name : RowName) (o : Option (List Write)) → wrote_row name o ≡
 found-some name None e = absurd (true≢false (sym e))
 found-some name (Some w) e = (w, refl, e)
 
-pub found-version : (base : OrderBase) (h : List Entry) (m : BTreeMap VersionKey ℕ) (name : RowName) (s : ℕ) (found : Found) → Sound base (begun h) (commits h) (ended h) (reads h) → HoldsMarks h m → IsMarkFoundBefore m name s found → found.wrote ≡ version_at h name s
+pub found-version : (base : OrderBase) (h : List Entry) (m : BTreeMap VersionKey ℕ) (name : RowName) (s : ℕ) (found : Found) → Sound base (begun h) (commits h) (ended_stamps h) (reads h) → HoldsMarks h m → IsMarkFoundBefore m name s found → found.wrote ≡ version_at h name s
 found-version base h m name s found sound holds is = sym (version_at-is h name s ∙ version_in-is name s (commits h) found.wrote from most)
   where
     from : (found.wrote ≡ 0) ⊎ Attains name s (commits h) found.wrote

@@ -14,7 +14,7 @@ use Rattle.c5_rows.specs.State.{State}
 use Rattle.c5_rows.specs.Writes.{change_of}
 use Rattle.c5_definitions.specs.declared.history.Entry.{Entry}
 use Rattle.c5_definitions.specs.declared.history.Event.TheVariants.{Commit as Commits}
-use Rattle.c5_definitions.specs.History.{Begun, begun, commits, ended, reads, row_left, left_by, row_of_version, row_seen, version_at, version_in}
+use Rattle.c5_definitions.specs.History.{Begun, begun, commits, ended_stamps, reads, row_left, left_by, row_of_version, row_seen, version_at, version_in}
 use Rattle.c5_definitions.specs.OrderLog.{IsOpen}
 use Rattle.c5_order.specs.declared.marks.VersionKey.{VersionKey}
 use Rattle.c5_order.specs.declared.marks.Found.{Found}

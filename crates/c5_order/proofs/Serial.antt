@@ -21,7 +21,7 @@ use Rattle.c5_definitions.specs.Eval.{eval}
 use Rattle.c5_definitions.specs.Follows.{Read as Answer, Follows, AnsweredBy}
 use Rattle.c5_definitions.specs.Lawful.{StampsRise}
 use Rattle.c5_definitions.specs.SerialRun.{body_at, serial_txns_from, script_numbers, AreAlike}
-use Rattle.c5_definitions.specs.History.{Begun, VersionRead, begun, commits, ended, reads, writes_row, version_in, row_left, left_by}
+use Rattle.c5_definitions.specs.History.{Begun, VersionRead, begun, commits, ended_stamps, reads, writes_row, version_in, row_left, left_by}
 use Rattle.c5_definitions.specs.OrderLog.{txn_of, committed, IsOrderHistory, IsStampOrderRun}
 use Rattle.c5_order.proofs.Versions.{Commit, seen, version_in-yes, version_in-no, version_in-attained, version_in-bound, version_in-is, Attains, contains-head, contains-tail, lookup-contains}
 use Rattle.c5_order.proofs.Histories.{CountsOn, counts-within, row_in, answers_in, OutcomeIn, IsLive, Sound}
@@ -298,12 +298,12 @@ distinct cs last (b ∷ bs) counts one = by (distinct cs b.stamp bs counts.1 (λ
 
 pub serial-run : EvalLaw → (base : OrderBase) (h : List Entry) → IsOrderHistory base h → IsStampOrderRun base (committed h)
 serial-run law base h is =
-    let sound : Sound base (begun h) (commits h) (ended h) (reads h) = sound-history base h is in
+    let sound : Sound base (begun h) (commits h) (ended_stamps h) (reads h) = sound-history base h is in
     let ts : List Txn = committed_of (commits h) (begun h) in
-    let rise : StampsRise base.last ts = rising law base (begun h) (commits h) (ended h) (reads h) sound in
+    let rise : StampsRise base.last ts = rising law base (begun h) (commits h) (ended_stamps h) (reads h) sound in
     subst (IsStampOrderRun base) (sym (committed-is h)) (record {
       stamps = rise;
       known = each-committed (λ t. t.script < length base.bodies) (commits h) (begun h) (λ b there w e. All-contains (λ b. b.script < length base.bodies) (begun h) b sound.known there);
       once = distinct (commits h) base.last (begun h) sound.counted (λ a b at there same x y. sound.live a b at there same (inr x) (inr y));
-      alike = alike-from base.bodies base.start 1 ts (runs-from base base.last [] ts rise (of-bodies law base (begun h) (commits h) (ended h) (reads h) sound));
+      alike = alike-from base.bodies base.start 1 ts (runs-from base base.last [] ts rise (of-bodies law base (begun h) (commits h) (ended_stamps h) (reads h) sound));
     })

@@ -8,7 +8,7 @@ use Rattle.std.proofs.lemmas.List.Elements.{All-contains, Contains-append_left, 
 use Rattle.c5_rows.specs.declared.writes.Write.{Write}
 use Rattle.c5_definitions.specs.declared.history.Entry.{Entry}
 use Rattle.c5_definitions.specs.declared.history.OrderBase.{OrderBase}
-use Rattle.c5_definitions.specs.History.{Begun, VersionRead, begun, commits, ended, reads}
+use Rattle.c5_definitions.specs.History.{Begun, VersionRead, begun, commits, ended_stamps, reads}
 use Rattle.c5_rows.specs.Numbers.{is_among}
 use Rattle.c5_definitions.specs.OrderLog.{IsOpen}
 use Rattle.c5_order.specs.declared.book.BodyState.{BodyState}
@@ -23,12 +23,12 @@ StateIn bs cs es script Free = (b : Begun) → Contains bs b → IsLive cs es b.
 StateIn bs cs es script (Open s) = (b : Begun) × Contains bs b × (is_among b.stamp es ≡ false) × (b.script ≡ script) × (b.stamp ≡ s)
 StateIn bs cs es script (Committed s) = (b : Begun) × Contains bs b × (b.script ≡ script) × (b.stamp ≡ s) × ((w : List Write) × (lookup (λ n. eqb n s) cs ≡ Some w))
 
-pub state-in : (h : List Entry) (n : ℕ) (st : BodyState) → HoldsState h n st → StateIn (begun h) (commits h) (ended h) n st
+pub state-in : (h : List Entry) (n : ℕ) (st : BodyState) → HoldsState h n st → StateIn (begun h) (commits h) (ended_stamps h) n st
 state-in h n Free holds = λ b there live same. holds b (there, live) same
 state-in h n (Open s) holds = let o = open-begun h holds.0 holds.1 in (holds.0, o.0, o.1, holds.2, holds.3)
 state-in h n (Committed s) holds = (holds.0, holds.1, holds.2, holds.3, holds.4)
 
-pub state-out : (h : List Entry) (n : ℕ) (st : BodyState) → StateIn (begun h) (commits h) (ended h) n st → HoldsState h n st
+pub state-out : (h : List Entry) (n : ℕ) (st : BodyState) → StateIn (begun h) (commits h) (ended_stamps h) n st → HoldsState h n st
 state-out h n Free holds = λ b live same. holds b live.0 live.1 same
 state-out h n (Open s) holds = (holds.0, begun-open h holds.0 holds.1 holds.2, holds.3, holds.4)
 state-out h n (Committed s) holds = (holds.0, holds.1, holds.2, holds.3, holds.4)

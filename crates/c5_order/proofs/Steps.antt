@@ -19,7 +19,7 @@ use Rattle.c5_definitions.specs.declared.history.Event.TheVariants.{Begin, Read,
 use Rattle.c5_definitions.specs.declared.history.OrderBase.{OrderBase}
 use Rattle.c5_definitions.specs.Follows.{Follows}
 use Rattle.c5_definitions.specs.SerialRun.{body_at}
-use Rattle.c5_definitions.specs.History.{Begun, VersionRead, begun, commits, ended, open_txns, last_begun, last_stamp, writes_row, version_in, version_at, reads}
+use Rattle.c5_definitions.specs.History.{Begun, VersionRead, begun, commits, ended_stamps, open_txns, last_begun, last_stamp, writes_row, version_in, version_at, reads}
 use Rattle.c5_rows.specs.Numbers.{is_among}
 use Rattle.c5_definitions.specs.OrderLog.{Conflict, reads_version, conflicts_on, conflicts, txn_of, committed, committed_stamp, open_stamp, IsOpen, IsOutcome, BeginsNext, Allows}
 use Rattle.c5_order.proofs.Versions.{Commit, seen, version_in-push_no, version_in-push_yes, version_in-narrow, contains-head, contains-tail, lookup-contains, lookup-more, lookup-push, lookup-none}

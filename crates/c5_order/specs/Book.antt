@@ -19,7 +19,8 @@ use Rattle.c5_definitions.specs.declared.history.Entry.{Entry}
 use Rattle.c5_definitions.specs.declared.history.Event.{Event}
 use Rattle.c5_definitions.specs.declared.history.Event.TheVariants as events
 use Rattle.c5_definitions.specs.declared.history.OrderBase.{OrderBase}
-use Rattle.c5_definitions.specs.History.{Begun, VersionRead, begun, commits, ended, last_stamp}
+use Rattle.c5_definitions.specs.History.{Begun, VersionRead, begun, commits, ended_stamps}
+use Rattle.c5_definitions.specs.History.{last_stamp}
 use Rattle.c5_definitions.specs.History.{open_txns, reads, row_left, writes_row}
 use Rattle.c5_rows.specs.Numbers.{is_among}
 use Rattle.c5_definitions.specs.OrderLog.{IsOpen, IsOrderHistory}
@@ -52,12 +53,12 @@ pub record HoldsTxn (history : List Entry) (b : Begun) (t : TxnState) : Type 0 w
 -- whether the stamp is open
 abbrev pub is_open : ℕ → List Entry → Bool
 is_open s history = is_among s (map (λ b. b.stamp) (begun history))
-    && not (is_among s (ended history))
+    && not (is_among s (ended_stamps history))
 
 -- open or committed
 abbrev pub IsLiveTxn : List Entry → Begun → Type 0
 IsLiveTxn history b = Contains (begun history) b
-    × ((is_among b.stamp (ended history) ≡ false)
+    × ((is_among b.stamp (ended_stamps history) ≡ false)
     ⊎ ((writes : List Write) × (writes_of_stamp b.stamp history ≡ Some writes)))
 
 -- what became of a body

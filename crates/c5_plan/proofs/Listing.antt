@@ -23,7 +23,8 @@ use Rattle.c5_frames.specs.Index.{writes_of}
 use Rattle.c5_plan.specs.declared.written.NameRef.{NameRef}
 use Rattle.c5_plan.specs.declared.written.WrittenRow.{WrittenRow}
 use Rattle.c5_plan.specs.Noted.{name_of_ref, Notes, ListsNotes, written_row}
-use Rattle.c5_plan.specs.Written.{is_same_name, AreWrittenRows}
+use Rattle.c5_definitions.specs.WriteNumbers.{is_same_name}
+use Rattle.c5_plan.specs.Written.{AreWrittenRows}
 use Rattle.c5_plan.proofs.Sizing.{length-names_in}
 use Rattle.c5_plan.proofs.Noting.{same_laws, IsPlaceOf, place_of_last, length-noted}
 

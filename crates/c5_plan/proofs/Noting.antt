@@ -17,7 +17,8 @@ use Rattle.c5_rows.specs.declared.writes.Txn.{Txn}
 use Rattle.c5_rows.specs.Order.{row_name_cmp, row_name_cmp_total, row_name_cmp_exact}
 use Rattle.c5_definitions.specs.WriteNumbers.{names_in}
 use Rattle.c5_frames.specs.Index.{writes_of}
-use Rattle.c5_plan.specs.Written.{is_same_name, row_count, last_from, last_write}
+use Rattle.c5_definitions.specs.WriteNumbers.{is_same_name, row_count}
+use Rattle.c5_plan.specs.Written.{last_from, last_write}
 use Rattle.c5_plan.specs.declared.written.NameRef.{NameRef}
 use Rattle.c5_plan.specs.Noted.{name_of_ref, Notes}
 use Rattle.c5_plan.proofs.Sizing.{length-names_in}

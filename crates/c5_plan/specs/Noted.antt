@@ -5,7 +5,8 @@ use Rattle.std.specs.List.{IsDistinct}
 use Rattle.c5_rows.specs.declared.writes.RowName.{RowName}
 use Rattle.c5_plan.specs.declared.written.NameRef.{NameRef}
 use Rattle.c5_plan.specs.declared.written.WrittenRow.{WrittenRow}
-use Rattle.c5_plan.specs.Written.{is_same_name, row_count, last_write}
+use Rattle.c5_definitions.specs.WriteNumbers.{is_same_name, row_count}
+use Rattle.c5_plan.specs.Written.{last_write}
 
 -- the name that is borrowed
 abbrev pub name_of_ref : NameRef → RowName

@@ -1,22 +1,13 @@
 -- The rows that a log writes, and the number of the last write of each.
-use Rattle.std.specs.Prelude.{◌≡◌, ◌+◌, ℕ, Bool, List, [], ◌∷◌, length, map, Option, Some, None}
+use Rattle.std.specs.Prelude.{◌≡◌, ◌+◌, ℕ, List, [], ◌∷◌, length, map, Option, Some, None}
 use Rattle.std.specs.Prelude.{if◌then◌else◌}
 use Rattle.std.specs.Option.{option_or}
-use Rattle.std.specs.Ordering.{eq_by_cmp}
 use Rattle.std.specs.List.Sorted.{IsStrictlySortedBy}
 use Rattle.std.specs.Map.{lookup}
-use Rattle.std.specs.Set.{distinct_count}
 use Rattle.c5_rows.specs.declared.writes.RowName.{RowName}
 use Rattle.c5_rows.specs.Order.{row_name_cmp}
+use Rattle.c5_definitions.specs.WriteNumbers.{is_same_name, row_count}
 use Rattle.c5_plan.specs.declared.written.WrittenRow.{WrittenRow}
-
--- the two are names of one row
-abbrev pub is_same_name : RowName → RowName → Bool
-is_same_name = eq_by_cmp row_name_cmp
-
--- the number of different rows that writes with these names write
-abbrev pub row_count : List RowName → ℕ
-row_count names = distinct_count is_same_name names
 
 -- the number of the last write of this name, if the first of the names has this number
 abbrev pub last_from : RowName → ℕ → List RowName → Option ℕ

@@ -2,7 +2,8 @@
 
 ghost use Rattle.std.specs.Prelude.{◌≡◌, ◌<◌, ◌↔◌, IfOk, IfSome, IsNone, MatchOption};
 ghost use Rattle.c5_definitions.specs.WriteNumbers.{names_in};
-ghost use Rattle.c5_plan.specs.Written.{row_count, AreWrittenRows};
+ghost use Rattle.c5_definitions.specs.WriteNumbers.{row_count};
+ghost use Rattle.c5_plan.specs.Written.{AreWrittenRows};
 
 use c5_frames::LogBuffer;
 use c5_rows::{NoMemory, RowName};

@@ -11,7 +11,7 @@ use Rattle.c5_rows.specs.declared.writes.Txn.{Txn}
 use Rattle.c5_definitions.specs.FitsScript.{IsScript}
 use Rattle.c5_definitions.specs.FitsState.{StateFits}
 use Rattle.c5_definitions.specs.Lawful.{IsLawfulLog}
-use Rattle.c5_definitions.specs.Limits.{AreWithinLimits, write_statements, written_rows}
+use Rattle.c5_definitions.specs.Limits.{AreWithinLimits, write_statements, written_row_count}
 use Rattle.c5_definitions.specs.ScriptParts.{ScriptParts}
 use Rattle.c5_definitions.specs.SerialRun.{SerialRun}
 use Rattle.c5_definitions.specs.Spelling.{spelled_log}
@@ -38,7 +38,7 @@ pub record IsLogWithin (script : ScriptParts) (txns : List Txn) : Type 0 where
   pub lawful : IsLawfulLog script.tables txns
   pub transactions : length txns ≡ length script.bodies
   pub writes : total_writes txns ≤ write_statements script.bodies
-  pub rows : total_rows txns ≤ written_rows script.bodies
+  pub rows : total_rows txns ≤ written_row_count script.bodies
   pub bytes : length (spelled_log script.tables txns) ≤ max_run_log_bytes
 
 -- from rows that fit the tables, every serial run of a script within its limits is such a log

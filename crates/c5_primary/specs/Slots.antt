@@ -4,7 +4,7 @@ use Rattle.c5_definitions.specs.declared.history.Entry.{Entry}
 use Rattle.c5_definitions.specs.declared.history.OrderBase.{OrderBase}
 use Rattle.c5_order.specs.declared.order.Order.{Order}
 use Rattle.turn_slot.specs.declared.slot.TurnSlot.{TurnSlot}
-use Rattle.turn_slot.specs.Passes.{passes, base_of}
+use Rattle.turn_slot.specs.Passes.{passes, slot_base}
 use Rattle.c5_primary.specs.declared.state.SlotId.{SlotId}
 use Rattle.c5_primary.specs.declared.state.Opened.{Opened}
 use Rattle.c5_primary.specs.declared.state.SessionState.{SessionState}
@@ -29,7 +29,7 @@ abbrev pub slot_state : TurnSlot Order OrderBase Entry → List ℕ → List Ent
 slot_state slot numbers seen looks begun = record {
   slot = slot_id slot;
   passes = passes slot;
-  base = base_of (λ o. o.base) slot;
+  base = slot_base (λ o. o.base) slot;
   numbers = numbers;
   seen = seen;
   looks = looks;
@@ -39,4 +39,4 @@ slot_state slot numbers seen looks begun = record {
 -- a session of this slot
 abbrev pub IsSessionOf : TurnSlot Order OrderBase Entry → SessionState → Type 0
 IsSessionOf slot s = (s.slot ≡ slot_id slot) × (s.passes ≡ passes slot)
-    × (s.base ≡ base_of (λ o. o.base) slot)
+    × (s.base ≡ slot_base (λ o. o.base) slot)

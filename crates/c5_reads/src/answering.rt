@@ -19,7 +19,7 @@ use std::marker::Model;
 
 /// The state after the first `place` transactions, with the rows before the log.
 #[derive(Clone, Copy)]
-pub struct Origin<'a> {
+pub struct ReadOrigin<'a> {
     pub start: &'a Rows,
     pub place: u32,
 }
@@ -29,7 +29,7 @@ fn load_row(
     alloc: Global,
     board: &Board<'_>,
     pass: &mut BoardPass,
-    origin: &Origin<'_>,
+    origin: &ReadOrigin<'_>,
     name: &RowName,
     rows: &mut Rows,
 ) -> Result<(), NoMemory>
@@ -50,7 +50,7 @@ fn load_keys(
     alloc: Global,
     board: &Board<'_>,
     pass: &mut BoardPass,
-    origin: &Origin<'_>,
+    origin: &ReadOrigin<'_>,
     table: u8,
     keys: &[Key],
     rows: &mut Rows,
@@ -76,7 +76,7 @@ fn load_line(
     alloc: Global,
     board: &Board<'_>,
     pass: &mut BoardPass,
-    origin: &Origin<'_>,
+    origin: &ReadOrigin<'_>,
     line: &ReadLine,
     rows: &mut Rows,
 ) -> Result<(), NoMemory>
@@ -102,7 +102,7 @@ fn load_lines(
     alloc: Global,
     board: &Board<'_>,
     pass: &mut BoardPass,
-    origin: &Origin<'_>,
+    origin: &ReadOrigin<'_>,
     lines: &[ReadLine],
 ) -> Result<Rows, NoMemory>
     requires pass { pass.old.board ≡ board.now }
@@ -126,7 +126,7 @@ pub fn answer_at(
     alloc: Global,
     board: &Board<'_>,
     pass: &mut BoardPass,
-    origin: &Origin<'_>,
+    origin: &ReadOrigin<'_>,
     read: &ReadBlock,
 ) -> Result<Answer, NoMemory>
     requires pass { pass.old.board ≡ board.now }

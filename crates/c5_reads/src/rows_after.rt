@@ -8,7 +8,7 @@ ghost use Rattle.c5_board.specs.Boards.{names, record_of};
 ghost use Rattle.c5_reads.specs.Looks.{OnlyLooks, LooksForRows};
 ghost use Rattle.c5_reads.specs.Filling.{IsFilled, LooksForWrite};
 
-use crate::answering::Origin;
+use crate::answering::ReadOrigin;
 use crate::finding::{row_or_start, set_row};
 use crate::law::last_write_law;
 use c5_board::{Board, BoardPass};
@@ -35,7 +35,7 @@ fn fill(
     alloc: Global,
     board: &Board<'_>,
     pass: &mut BoardPass,
-    origin: &Origin<'_>,
+    origin: &ReadOrigin<'_>,
     w: u32,
     rows: &mut Rows,
 ) -> Result<(), NoMemory>
@@ -81,7 +81,7 @@ pub fn rows_at(
     number_law();
     last_write_law();
     let _place = pass.place();
-    let origin = Origin { start, place };
+    let origin = ReadOrigin { start, place };
     let mut rows = start.copied()?;
     for before in 0..board.plan().end(place) {
         fill(alloc, board, pass, &origin, before + 1, &mut rows)?;

@@ -34,7 +34,7 @@ ghost use Rattle.c5_definitions.specs.Replies.{reply_at};
 ghost use Rattle.c5_reads.specs.Sessions.{began};
 ghost use Rattle.c5_reads.specs.Looks.{OnlyLooks, LooksForRead};
 
-use crate::answering::{Origin, answer_at};
+use crate::answering::{ReadOrigin, answer_at};
 use crate::view::View;
 use c5_board::{Board, BoardPass};
 use c5_rows::{NoMemory, Reply};
@@ -84,7 +84,7 @@ impl<'s> ReadSession<'s> {
         ensures looks { OnOk result (LooksForRead pass.old pass.new read.now view.now.place) }
     {
         let place = view.place;
-        let origin = Origin {
+        let origin = ReadOrigin {
             start: self.start,
             place,
         };

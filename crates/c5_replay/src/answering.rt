@@ -6,7 +6,7 @@ ghost use Rattle.c5_definitions.specs.ScriptParts.{ReadParts};
 ghost use Rattle.c5_replay.specs.Answered.{HasAnswered, OnlyReads};
 ghost use Rattle.c5_replay.specs.Parts.{IsPassWith};
 
-use crate::stage::Stage;
+use crate::shared::Shared;
 use crate::waiting::wait_for_place;
 use c5_board::{Board, BoardPass};
 use c5_io::{Gate, Role};
@@ -59,25 +59,25 @@ fn wait_after(
 /// later place between two.
 pub fn answer_all<G: Gate>(
     alloc: Global,
-    stage: &Stage<'_>,
+    shared: &Shared<'_>,
     gate: &G,
     number: u32,
     pass: &mut BoardPass,
 ) -> Result<Vec<Reply>, NoMemory>
-    requires pass { IsPassWith stage.now.board.now [] pass.old }
-    ensures pass { OnOk result (IsPassWith stage.now.board.now [] pass.new) }
-    ensures answered { IfOk result (λ replies. HasAnswered pass.new stage.now.start.now
-        (reads_of_session stage.now.reads.now number) replies.items) }
+    requires pass { IsPassWith shared.now.board.now [] pass.old }
+    ensures pass { OnOk result (IsPassWith shared.now.board.now [] pass.new) }
+    ensures answered { IfOk result (λ replies. HasAnswered pass.new shared.now.start.now
+        (reads_of_session shared.now.reads.now number) replies.items) }
 {
-    let mut session = ReadSession::new(number, stage.start);
+    let mut session = ReadSession::new(number, shared.start);
     let mut replies = Vec::new(alloc);
-    for read in stage.reads {
+    for read in shared.reads {
         if read.session() != number {
             continue;
         }
-        wait_after(stage.board, &mut session, pass, &replies);
+        wait_after(shared.board, &mut session, pass, &replies);
         gate.pass(Role::Session(number), replies.len() as u64 + 1);
-        answer_next(alloc, stage.board, &mut session, pass, &mut replies, read)?;
+        answer_next(alloc, shared.board, &mut session, pass, &mut replies, read)?;
     }
     Ok(replies)
 }

@@ -3,7 +3,7 @@
 ghost use Rattle.std.specs.Prelude.{◌≡◌, ◌++◌, ◌-◌, ◌≤◌, ◌<◌, [], true, IfOk, OnOk, Err, drop};
 ghost use Rattle.c5_rows.specs.Sizes.{max_rows, max_sessions};
 ghost use Rattle.c5_definitions.specs.WriteNumbers.{names_in};
-ghost use Rattle.c5_plan.specs.Written.{row_count};
+ghost use Rattle.c5_definitions.specs.WriteNumbers.{row_count};
 ghost use Rattle.c5_board.specs.Boards.{names, write_count};
 ghost use Rattle.c5_replay.specs.Joins.{IsJoined, HaveReplied, HaveWorked, AreAllJoined};
 ghost use Rattle.c5_replay.specs.Parts.{IsPassWith, IsNextEnd, HaveEnded, HasEnded, all_roles};
@@ -13,7 +13,7 @@ ghost use Rattle.c5_replay.specs.declared.fault.ReplayFault.TheVariants as fault
 
 use crate::fault::ReplayFault;
 use crate::part::Part;
-use crate::stage::Stage;
+use crate::shared::Shared;
 use c5_board::BoardPass;
 use c5_io::Role;
 use c5_rows::{MAX_SESSIONS, NoMemory, Replies, Reply};
@@ -33,10 +33,11 @@ pub struct Joined {
 }
 
 // The end of the next part, which has this role.
-fn next_end(stage: &Stage<'_>, ends: &mut Ends, role: Role) -> Result<Part, NoMemory>
-    requires next { IsNextEnd stage.now.board.now stage.now.start.now stage.now.reads.now role
+fn next_end(shared: &Shared<'_>, ends: &mut Ends, role: Role) -> Result<Part, NoMemory>
+    requires next { IsNextEnd shared.now.board.now shared.now.start.now shared.now.reads.now role
         ends.old.items }
-    ensures end { HasEnded stage.now.board.now stage.now.start.now stage.now.reads.now role result }
+    ensures end { HasEnded shared.now.board.now shared.now.start.now shared.now.reads.now role
+        result }
     ensures ends { ends.new.items ≡ drop 1 ends.old.items }
 {
     match ends.pop_front() {
@@ -47,27 +48,27 @@ fn next_end(stage: &Stage<'_>, ends: &mut Ends, role: Role) -> Result<Part, NoMe
 
 // Joins the scheduler's pass, after the rest of the log is scheduled.
 fn join_scheduler(
-    stage: &Stage<'_>,
+    shared: &Shared<'_>,
     pass: BoardPass,
     ends: &mut Ends,
 ) -> Result<BoardPass, ReplayFault>
-    requires pass { IsPassWith stage.now.board.now [] pass }
-    requires next { IsNextEnd stage.now.board.now stage.now.start.now stage.now.reads.now
+    requires pass { IsPassWith shared.now.board.now [] pass }
+    requires next { IsNextEnd shared.now.board.now shared.now.start.now shared.now.reads.now
         roles.Scheduler ends.old.items }
     ensures ends { ends.new.items ≡ drop 1 ends.old.items }
-    ensures pass { IfOk result (IsPassWith stage.now.board.now []) }
+    ensures pass { IfOk result (IsPassWith shared.now.board.now []) }
     ensures role { IfOk result (λ joined. joined.scheduler ≡ true) }
     ensures scheduled { IfOk result
-        (λ joined. write_count stage.now.board.now ≤ joined.scheduled) }
-    ensures few { OnOk result (row_count (names stage.now.board.now) ≤ max_rows) }
-    ensures rows { result ≡ Err faults.Rows → max_rows < row_count (names stage.now.board.now) }
+        (λ joined. write_count shared.now.board.now ≤ joined.scheduled) }
+    ensures few { OnOk result (row_count (names shared.now.board.now) ≤ max_rows) }
+    ensures rows { result ≡ Err faults.Rows → max_rows < row_count (names shared.now.board.now) }
 {
-    match next_end(stage, ends, Role::Scheduler)? {
+    match next_end(shared, ends, Role::Scheduler)? {
         Part::Scheduler {
             pass: mut own,
             mut scheduler,
-        } => match schedule_all(stage.board, &mut own, &mut scheduler) {
-            ScheduleEnd::Done => Ok(stage.board.join(pass, own)),
+        } => match schedule_all(shared.board, &mut own, &mut scheduler) {
+            ScheduleEnd::Done => Ok(shared.board.join(pass, own)),
             ScheduleEnd::Rows => Err(ReplayFault::Rows),
         },
         _ => unreachable!(),
@@ -75,17 +76,21 @@ fn join_scheduler(
 }
 
 // Joins the snapshotter's pass.
-fn join_snapshot(stage: &Stage<'_>, pass: BoardPass, ends: &mut Ends) -> Result<BoardPass, NoMemory>
-    requires pass { IsPassWith stage.now.board.now [] pass }
-    requires next { IsNextEnd stage.now.board.now stage.now.start.now stage.now.reads.now
+fn join_snapshot(
+    shared: &Shared<'_>,
+    pass: BoardPass,
+    ends: &mut Ends,
+) -> Result<BoardPass, NoMemory>
+    requires pass { IsPassWith shared.now.board.now [] pass }
+    requires next { IsNextEnd shared.now.board.now shared.now.start.now shared.now.reads.now
         roles.Snapshot ends.old.items }
     ensures ends { ends.new.items ≡ drop 1 ends.old.items }
-    ensures pass { IfOk result (IsPassWith stage.now.board.now []) }
+    ensures pass { IfOk result (IsPassWith shared.now.board.now []) }
     ensures role { IfOk result (λ joined. joined.snapshot ≡ true) }
     ensures joined { IfOk result (IsJoined pass) }
 {
-    match next_end(stage, ends, Role::Snapshot)? {
-        Part::Snapshot { pass: own } => Ok(stage.board.join(pass, own)),
+    match next_end(shared, ends, Role::Snapshot)? {
+        Part::Snapshot { pass: own } => Ok(shared.board.join(pass, own)),
         _ => unreachable!(),
     }
 }
@@ -102,32 +107,32 @@ fn append(replies: &mut Replies, more: Vec<Reply>) -> Result<(), NoMemory>
 
 // Joins the pass of the next session, and adds its replies.
 fn join_session(
-    stage: &Stage<'_>,
+    shared: &Shared<'_>,
     pass: BoardPass,
     ends: &mut Ends,
     replies: &mut Replies,
     session: u32,
 ) -> Result<BoardPass, NoMemory>
     requires some { 1 ≤ session }
-    requires pass { IsPassWith stage.now.board.now [] pass }
-    requires next { IsNextEnd stage.now.board.now stage.now.start.now stage.now.reads.now
+    requires pass { IsPassWith shared.now.board.now [] pass }
+    requires next { IsNextEnd shared.now.board.now shared.now.start.now shared.now.reads.now
         (roles.Session session) ends.old.items }
-    requires replied { HaveReplied pass stage.now.start.now stage.now.reads.now (session - 1)
+    requires replied { HaveReplied pass shared.now.start.now shared.now.reads.now (session - 1)
         replies.old }
     ensures ends { ends.new.items ≡ drop 1 ends.old.items }
-    ensures pass { IfOk result (IsPassWith stage.now.board.now []) }
+    ensures pass { IfOk result (IsPassWith shared.now.board.now []) }
     ensures joined { IfOk result (IsJoined pass) }
-    ensures replied { IfOk result (λ joined. HaveReplied joined stage.now.start.now
-        stage.now.reads.now session replies.new) }
+    ensures replied { IfOk result (λ joined. HaveReplied joined shared.now.start.now
+        shared.now.reads.now session replies.new) }
 {
-    match next_end(stage, ends, Role::Session(session))? {
+    match next_end(shared, ends, Role::Session(session))? {
         Part::Session {
             pass: own,
             replies: more,
             ..
         } => {
             append(replies, more)?;
-            Ok(stage.board.join(pass, own))
+            Ok(shared.board.join(pass, own))
         }
         _ => unreachable!(),
     }
@@ -135,46 +140,46 @@ fn join_session(
 
 // Joins the passes of all sessions. The replies are by ascending session.
 fn join_sessions(
-    stage: &Stage<'_>,
+    shared: &Shared<'_>,
     mut pass: BoardPass,
     ends: &mut Ends,
     replies: &mut Replies,
 ) -> Result<BoardPass, NoMemory>
-    requires pass { IsPassWith stage.now.board.now [] pass }
-    requires ends { HaveEnded stage.now.board.now stage.now.start.now stage.now.reads.now
-        (session_roles ++ worker_roles stage.now.board.now.workers) ends.old.items }
+    requires pass { IsPassWith shared.now.board.now [] pass }
+    requires ends { HaveEnded shared.now.board.now shared.now.start.now shared.now.reads.now
+        (session_roles ++ worker_roles shared.now.board.now.workers) ends.old.items }
     requires none { replies.old ≡ [] }
-    ensures ends { OnOk result (HaveEnded stage.now.board.now stage.now.start.now
-        stage.now.reads.now (worker_roles stage.now.board.now.workers) ends.new.items) }
-    ensures pass { IfOk result (IsPassWith stage.now.board.now []) }
+    ensures ends { OnOk result (HaveEnded shared.now.board.now shared.now.start.now
+        shared.now.reads.now (worker_roles shared.now.board.now.workers) ends.new.items) }
+    ensures pass { IfOk result (IsPassWith shared.now.board.now []) }
     ensures joined { IfOk result (IsJoined pass) }
-    ensures replied { IfOk result (λ joined. HaveReplied joined stage.now.start.now
-        stage.now.reads.now max_sessions replies.new) }
+    ensures replied { IfOk result (λ joined. HaveReplied joined shared.now.start.now
+        shared.now.reads.now max_sessions replies.new) }
 {
     for before in 0..MAX_SESSIONS {
-        pass = join_session(stage, pass, ends, replies, before + 1)?;
+        pass = join_session(shared, pass, ends, replies, before + 1)?;
     }
     Ok(pass)
 }
 
 // Joins the pass of the next worker, and adds it to the others.
 fn join_worker(
-    stage: &Stage<'_>,
+    shared: &Shared<'_>,
     pass: BoardPass,
     ends: &mut Ends,
     workers: &mut Vec<Worker>,
     i: u32,
 ) -> Result<BoardPass, NoMemory>
     requires some { 1 ≤ i }
-    requires worked { HaveWorked stage.now.board.now pass (i - 1) workers.old.items }
-    requires next { IsNextEnd stage.now.board.now stage.now.start.now stage.now.reads.now
+    requires worked { HaveWorked shared.now.board.now pass (i - 1) workers.old.items }
+    requires next { IsNextEnd shared.now.board.now shared.now.start.now shared.now.reads.now
         (roles.Worker i) ends.old.items }
     ensures ends { ends.new.items ≡ drop 1 ends.old.items }
     ensures worked { IfOk result
-        (λ joined. HaveWorked stage.now.board.now joined i workers.new.items) }
+        (λ joined. HaveWorked shared.now.board.now joined i workers.new.items) }
     ensures joined { IfOk result (IsJoined pass) }
 {
-    match next_end(stage, ends, Role::Worker(i))? {
+    match next_end(shared, ends, Role::Worker(i))? {
         Part::Worker {
             pass: own,
             worker,
@@ -183,7 +188,7 @@ fn join_worker(
             let _place = pass.place();
             let _own_place = own.place();
             workers.push(worker)?;
-            Ok(stage.board.join(pass, own))
+            Ok(shared.board.join(pass, own))
         }
         _ => unreachable!(),
     }
@@ -192,20 +197,20 @@ fn join_worker(
 // Joins the passes of all workers, and lists these in order.
 fn join_workers(
     alloc: Global,
-    stage: &Stage<'_>,
+    shared: &Shared<'_>,
     mut pass: BoardPass,
     ends: &mut Ends,
 ) -> Result<(BoardPass, Vec<Worker>), NoMemory>
-    requires pass { IsPassWith stage.now.board.now [] pass }
-    requires ends { HaveEnded stage.now.board.now stage.now.start.now stage.now.reads.now
-        (worker_roles stage.now.board.now.workers) ends.old.items }
-    ensures worked { IfOk result (λ joined. HaveWorked stage.now.board.now joined.0
-        stage.now.board.now.workers joined.1.items) }
+    requires pass { IsPassWith shared.now.board.now [] pass }
+    requires ends { HaveEnded shared.now.board.now shared.now.start.now shared.now.reads.now
+        (worker_roles shared.now.board.now.workers) ends.old.items }
+    ensures worked { IfOk result (λ joined. HaveWorked shared.now.board.now joined.0
+        shared.now.board.now.workers joined.1.items) }
     ensures joined { IfOk result (λ joined. IsJoined pass joined.0) }
 {
-    let mut workers = Vec::with_capacity(alloc, stage.board.workers() as usize)?;
-    for before in 0..stage.board.workers() {
-        pass = join_worker(stage, pass, ends, &mut workers, before + 1)?;
+    let mut workers = Vec::with_capacity(alloc, shared.board.workers() as usize)?;
+    for before in 0..shared.board.workers() {
+        pass = join_worker(shared, pass, ends, &mut workers, before + 1)?;
     }
     Ok((pass, workers))
 }
@@ -214,24 +219,24 @@ fn join_workers(
 /// writes too many rows.
 pub fn join_all(
     alloc: Global,
-    stage: &Stage<'_>,
+    shared: &Shared<'_>,
     rest: BoardPass,
     ends: Vec<Result<Part, NoMemory>>,
 ) -> Result<Joined, ReplayFault>
-    requires rest { IsPassWith stage.now.board.now [] rest }
-    requires ends { HaveEnded stage.now.board.now stage.now.start.now stage.now.reads.now
-        (all_roles stage.now.board.now.workers) ends.items }
-    ensures joined { IfOk result (λ joined. AreAllJoined stage.now.board.now stage.now.start.now
-        stage.now.reads.now joined.pass joined.workers.items joined.replies) }
-    ensures few { OnOk result (row_count (names stage.now.board.now) ≤ max_rows) }
-    ensures rows { result ≡ Err faults.Rows → max_rows < row_count (names stage.now.board.now) }
+    requires rest { IsPassWith shared.now.board.now [] rest }
+    requires ends { HaveEnded shared.now.board.now shared.now.start.now shared.now.reads.now
+        (all_roles shared.now.board.now.workers) ends.items }
+    ensures joined { IfOk result (λ joined. AreAllJoined shared.now.board.now shared.now.start.now
+        shared.now.reads.now joined.pass joined.workers.items joined.replies) }
+    ensures few { OnOk result (row_count (names shared.now.board.now) ≤ max_rows) }
+    ensures rows { result ≡ Err faults.Rows → max_rows < row_count (names shared.now.board.now) }
 {
     let mut ends = VecDeque::from_vec(ends);
     let mut replies = Replies::new(alloc);
-    let pass = join_scheduler(stage, rest, &mut ends)?;
-    let pass = join_snapshot(stage, pass, &mut ends)?;
-    let pass = join_sessions(stage, pass, &mut ends, &mut replies)?;
-    let (pass, workers) = join_workers(alloc, stage, pass, &mut ends)?;
+    let pass = join_scheduler(shared, rest, &mut ends)?;
+    let pass = join_snapshot(shared, pass, &mut ends)?;
+    let pass = join_sessions(shared, pass, &mut ends, &mut replies)?;
+    let (pass, workers) = join_workers(alloc, shared, pass, &mut ends)?;
     Ok(Joined {
         pass,
         workers,

@@ -10,9 +10,9 @@ mod part;
 mod playing;
 mod replaying;
 mod scheduling;
+mod shared;
 mod showing;
 mod splitting;
-mod stage;
 mod waiting;
 mod working;
 

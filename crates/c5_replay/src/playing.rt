@@ -6,8 +6,8 @@ ghost use Rattle.c5_replay.specs.Parts.{Plays, ArePlaying, HaveEnded, role_of};
 use crate::answering::answer_all;
 use crate::part::Part;
 use crate::scheduling::schedule;
+use crate::shared::Shared;
 use crate::showing::show;
-use crate::stage::Stage;
 use crate::working::work;
 use c5_io::Gate;
 use c5_rows::NoMemory;
@@ -16,18 +16,18 @@ use std::thread;
 use std::thread::Threads;
 
 // Runs a part to its end.
-fn play<G: Gate>(alloc: Global, stage: &Stage<'_>, gate: &G, part: Part) -> Result<Part, NoMemory>
-    requires plays { Plays stage.now.board.now stage.now.start.now [] part }
+fn play<G: Gate>(alloc: Global, shared: &Shared<'_>, gate: &G, part: Part) -> Result<Part, NoMemory>
+    requires plays { Plays shared.now.board.now shared.now.start.now [] part }
     ensures role { IfOk result (λ end. role_of end ≡ role_of part) }
     ensures plays { IfOk result
-        (Plays stage.now.board.now stage.now.start.now stage.now.reads.now) }
+        (Plays shared.now.board.now shared.now.start.now shared.now.reads.now) }
 {
     match part {
         Part::Scheduler {
             mut pass,
             mut scheduler,
         } => {
-            schedule(stage.board, gate, &mut pass, &mut scheduler);
+            schedule(shared.board, gate, &mut pass, &mut scheduler);
             Ok(Part::Scheduler { pass, scheduler })
         }
         Part::Worker {
@@ -35,11 +35,11 @@ fn play<G: Gate>(alloc: Global, stage: &Stage<'_>, gate: &G, part: Part) -> Resu
             mut pass,
             mut worker,
         } => {
-            work(stage.board, gate, i, &mut pass, &mut worker);
+            work(shared.board, gate, i, &mut pass, &mut worker);
             Ok(Part::Worker { i, pass, worker })
         }
         Part::Snapshot { mut pass } => {
-            show(stage.board, gate, &mut pass);
+            show(shared.board, gate, &mut pass);
             Ok(Part::Snapshot { pass })
         }
         Part::Session {
@@ -47,7 +47,7 @@ fn play<G: Gate>(alloc: Global, stage: &Stage<'_>, gate: &G, part: Part) -> Resu
             mut pass,
             ..
         } => {
-            let replies = answer_all(alloc, stage, gate, session, &mut pass)?;
+            let replies = answer_all(alloc, shared, gate, session, &mut pass)?;
             Ok(Part::Session {
                 session,
                 pass,
@@ -62,23 +62,23 @@ fn play<G: Gate>(alloc: Global, stage: &Stage<'_>, gate: &G, part: Part) -> Resu
 pub fn play_all<G: Gate, R: Threads + Sync>(
     rt: &R,
     alloc: Global,
-    stage: Stage<'_>,
+    shared: Shared<'_>,
     gate: &G,
     parts: Vec<Part>,
 ) -> Result<Vec<Result<Part, NoMemory>>, NoMemory>
-    requires plays { ArePlaying stage.board.now stage.start.now parts.items }
+    requires plays { ArePlaying shared.board.now shared.start.now parts.items }
     ensures { IfOk result
-        (λ ends. HaveEnded stage.entry.board.now stage.entry.start.now stage.entry.reads.now
+        (λ ends. HaveEnded shared.entry.board.now shared.entry.start.now shared.entry.reads.now
         (map role_of parts.items) ends.items) }
 {
     let ends = thread::map_vec(
         rt,
         parts,
         &move |part: Part| -> Result<Part, NoMemory>
-            requires { Plays stage.board.now stage.start.now [] part }
+            requires { Plays shared.board.now shared.start.now [] part }
             ensures { IfOk result (λ end. (role_of end ≡ role_of part)
-                × Plays stage.entry.board.now stage.entry.start.now stage.entry.reads.now end) }
-        { play(alloc, &stage, gate, part) },
+                × Plays shared.entry.board.now shared.entry.start.now shared.entry.reads.now end) }
+        { play(alloc, &shared, gate, part) },
     )?;
     Ok(ends)
 }

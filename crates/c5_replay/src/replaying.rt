@@ -3,7 +3,7 @@
 ghost use Rattle.std.specs.Prelude.{◌≡◌, ◌≤◌, ◌<◌, length, Err, IfOk, OnOk};
 ghost use Rattle.c5_rows.specs.Sizes.{max_reads, max_rows, max_workers};
 ghost use Rattle.c5_definitions.specs.WriteNumbers.{names_in};
-ghost use Rattle.c5_plan.specs.Written.{row_count};
+ghost use Rattle.c5_definitions.specs.WriteNumbers.{row_count};
 ghost use Rattle.c5_board.specs.Boards.{IsWorker};
 ghost use Rattle.c5_replay.specs.Replays.{IsReplay, HasReplayed};
 ghost use Rattle.c5_replay.specs.declared.fault.ReplayFault.TheVariants as faults;
@@ -12,8 +12,8 @@ use crate::fault::ReplayFault;
 use crate::finishing::finish_all;
 use crate::joining::join_all;
 use crate::playing::play_all;
+use crate::shared::Shared;
 use crate::splitting::split_all;
-use crate::stage::Stage;
 use c5_board::{Board, BoardPass};
 use c5_io::Gate;
 use c5_plan::Plan;
@@ -66,16 +66,16 @@ pub fn replay<G: Gate, R: Threads + Sync>(
 {
     let (board, pass) = Board::new(alloc, plan, workers)?;
     let scheduler = Scheduler::new(alloc, &board)?;
-    let stage = Stage {
+    let shared = Shared {
         board: &board,
         start,
         reads,
     };
     let (rest, parts) = split_all(alloc, &board, pass, scheduler)?;
-    let ends = play_all(rt, alloc, stage, gate, parts)?;
-    let mut joined = join_all(alloc, &stage, rest, ends)?;
+    let ends = play_all(rt, alloc, shared, gate, parts)?;
+    let mut joined = join_all(alloc, &shared, rest, ends)?;
     finish_all(
-        &stage,
+        &shared,
         &mut joined.pass,
         joined.workers.as_mut_slice(),
         &joined.replies,

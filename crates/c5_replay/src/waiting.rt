@@ -3,7 +3,7 @@
 ghost use Rattle.std.specs.Prelude.{◌≡◌};
 ghost use Rattle.c5_replay.specs.Answered.{OnlyReads};
 
-use crate::stage::MAX_STALLED;
+use crate::shared::MAX_STALLED;
 use c5_board::{Board, BoardPass};
 use c5_reads::ReadSession;
 use std::thread;

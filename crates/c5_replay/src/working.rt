@@ -4,7 +4,7 @@ ghost use Rattle.std.specs.Prelude.{◌≡◌, ◌∷◌, []};
 ghost use Rattle.c5_workers.specs.Work.{FitsWorker};
 ghost use Rattle.c5_replay.specs.Parts.{IsPassWith};
 
-use crate::stage::MAX_STALLED;
+use crate::shared::MAX_STALLED;
 use c5_board::{Board, BoardPass};
 use c5_io::{Gate, Role};
 use c5_workers::{WorkTurn, Worker};

@@ -9,7 +9,7 @@ ghost use Rattle.c5_rows.specs.Order.{row_name_cmp};
 ghost use Rattle.c5_script.specs.Rows.{is_row};
 ghost use Rattle.c5_rows.specs.declared.writes.RowName.{RowName};
 ghost use Rattle.c5_definitions.specs.Limits.{written_name, written_names, write_statements};
-ghost use Rattle.c5_definitions.specs.Limits.{written_rows, excess_of};
+ghost use Rattle.c5_definitions.specs.Limits.{written_row_count, excess_of};
 ghost use Rattle.c5_script.specs.Slots.{slots};
 
 use crate::bodies::Body;

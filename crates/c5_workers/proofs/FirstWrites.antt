@@ -8,7 +8,7 @@ use Rattle.std.proofs.lemmas.Option.{slice_get_within, get_or_from_slice_get}
 use Rattle.c5_rows.specs.declared.writes.RowName.{RowName}
 use Rattle.c5_definitions.specs.WriteNumbers.{name_at, row_of, IsWrite}
 use Rattle.c5_definitions.proofs.NumberLemmas.{rows_are_numbered}
-use Rattle.c5_plan.specs.Written.{is_same_name, row_count}
+use Rattle.c5_definitions.specs.WriteNumbers.{is_same_name, row_count}
 use Rattle.c5_plan.proofs.Noting.{same_laws, same_exact}
 use Rattle.c5_workers.specs.Scheduling.{first_write_count, RowsAreFirstWrites}
 

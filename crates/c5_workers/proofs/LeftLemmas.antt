@@ -9,7 +9,7 @@ use Rattle.c5_board.specs.declared.known.Look.{Look}
 use Rattle.c5_board.specs.Boards.{Board, Pass, names}
 use Rattle.c5_board.specs.Passes.{IsSound, IsOutstanding, owner_in}
 use Rattle.c5_chains.specs.declared.install.Install.TheVariants.{Installed, PutOff}
-use Rattle.c5_chains.specs.Tries.{tried, head_found, IsCaused}
+use Rattle.c5_chains.specs.Tries.{after_try, head_found, IsCaused}
 use Rattle.c5_workers.specs.declared.worker.Worker.{Worker}
 use Rattle.c5_workers.specs.Tries.{FitsList, least_of}
 use Rattle.c5_workers.specs.Work.{FitsWorker}
@@ -46,7 +46,7 @@ least-other u p w owners sound fits next owned apart = by (either_way (least_of 
 pub left-none : (p : Pass) (w : ℕ) → is_among w p.installed ≡ true → p ≡ with_left p w
 left-none p w done = λ i. record p { installed = cond (sym done i) p.installed (w ∷ p.installed); looks = cond (sym done i) p.looks (p.looks ++ install_looks (names p.board) w) }
 
-pub left-tried : (p : Pass) (w : ℕ) → is_among w p.installed ≡ false → tried p w (head_found (names p.board) w Installed) ≡ with_left p w
+pub left-tried : (p : Pass) (w : ℕ) → is_among w p.installed ≡ false → after_try p w (head_found (names p.board) w Installed) ≡ with_left p w
 left-tried p w new =
     (λ i. record p { installed = cond (eq-eqb (predecessor_of (names p.board) w) (predecessor_of (names p.board) w) refl i) (w ∷ p.installed) p.installed; looks = p.looks ++ install_looks (names p.board) w })
     ∙ (λ i. record p { installed = cond (sym new i) p.installed (w ∷ p.installed); looks = cond (sym new i) p.looks (p.looks ++ install_looks (names p.board) w) })
@@ -59,7 +59,7 @@ never-put_off p w seen laws next behind =
 
 -- the worker after its least number was installed
 pub least-taken : (u after : Worker) (p q : Pass) (w : ℕ) → NumbersAreOwned p.board.workers → FitsWorker u p → IsNextLeft p w → least_of u.put_off.items u.next ≡ w → IsCaused p w Installed
-    → q ≡ tried p w (head_found (names p.board) w Installed) → TakesLeast u after → FitsWorker after q
+    → q ≡ after_try p w (head_found (names p.board) w Installed) → TakesLeast u after → FitsWorker after q
 least-taken u after p q w owners fits next least cause is taken = by u.put_off.items refl
   where
     board : q.board ≡ p.board
@@ -95,7 +95,7 @@ least-taken u after p q w owners fits next least cause is taken = by u.put_off.i
         let is_first : x ≡ w = sym (ap (λ (l : List ℕ). least_of l u.next) e) ∙ least in
         let numbers : FitsList u.i u.next (x ∷ rest) p = list-of u.i u.i u.next u.next u.put_off.items (x ∷ rest) p refl refl e fits.numbers in
         whole (list-of u.i after.i u.next after.next rest after.put_off.items q (sym taken.same.i) (sym (taken.next ∙ ap (λ (l : List ℕ). next_after l u.next u.workers) e)) (sym (taken.list ∙ ap (drop 1) e))
-        (list-installed p q u.i u.next x [] rest numbers (subst (λ (v : ℕ). q ≡ tried p v (head_found (names p.board) v Installed)) (sym is_first) is)))
+        (list-installed p q u.i u.next x [] rest numbers (subst (λ (v : ℕ). q ≡ after_try p v (head_found (names p.board) v Installed)) (sym is_first) is)))
 
 -- ---- the other workers
 

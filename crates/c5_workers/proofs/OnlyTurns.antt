@@ -10,7 +10,7 @@ use Rattle.c5_board.specs.declared.known.Look.{Look}
 use Rattle.c5_board.specs.Boards.{Board, Pass, names, IsWorker}
 use Rattle.c5_board.specs.Passes.{owner_in}
 use Rattle.c5_chains.specs.declared.install.Install.{Install}
-use Rattle.c5_chains.specs.Tries.{tried, head_found}
+use Rattle.c5_chains.specs.Tries.{after_try, head_found}
 use Rattle.c5_workers.specs.declared.worker.Worker.{Worker}
 use Rattle.c5_workers.specs.Tries.{IsWaiting, Tries, Retries}
 use Rattle.c5_workers.specs.Work.{FitsWorker, TriesNext, OnlyWorks, with_scheduled, with_progress}
@@ -36,7 +36,7 @@ only-then i p q r h k =
     }
 
 -- one try
-pub only-tried : (i : ℕ) (p : Pass) (w head : ℕ) → owner_in p w ≡ i → OnlyWorks i p (tried p w head)
+pub only-tried : (i : ℕ) (p : Pass) (w head : ℕ) → owner_in p w ≡ i → OnlyWorks i p (after_try p w head)
 only-tried i p w head owned = record {
   rest = refl;
   scheduled = omega arith;
@@ -56,8 +56,8 @@ only-tries i p q [] [] own h = only-same i p q h
 only-tries i p q [] (r ∷ results) own h = absurd h
 only-tries i p q (w ∷ list) [] own h = absurd h
 only-tries i p q (w ∷ list) (r ∷ results) own h =
-    only-then i p (tried p w (head_found (names p.board) w r)) q (only-tried i p w (head_found (names p.board) w r) own.0)
-    (only-tries i (tried p w (head_found (names p.board) w r)) q list results own.1 h.1)
+    only-then i p (after_try p w (head_found (names p.board) w r)) q (only-tried i p w (head_found (names p.board) w r) own.0)
+    (only-tries i (after_try p w (head_found (names p.board) w r)) q list results own.1 h.1)
 
 pub only-loaded : (i : ℕ) (p : Pass) (x : ℕ) → p.scheduled ≤ x → OnlyWorks i p (with_scheduled p x)
 only-loaded i p x up = record { rest = refl; scheduled = up; installed = λ w other. refl; floors = λ j is other. refl; more = _; looks = refl }

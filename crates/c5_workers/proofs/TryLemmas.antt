@@ -14,7 +14,7 @@ use Rattle.c5_rows.specs.Numbers.{is_among}
 use Rattle.c5_board.specs.Boards.{Pass, names}
 use Rattle.c5_chains.specs.declared.install.Install.{Install}
 use Rattle.c5_chains.specs.declared.install.Install.TheVariants.{Installed, PutOff}
-use Rattle.c5_chains.specs.Tries.{tried, head_found, IsCaused}
+use Rattle.c5_chains.specs.Tries.{after_try, head_found, IsCaused}
 use Rattle.c5_workers.specs.Tries.{Ascends, IsWaiting, HasTried, FitsList, Tries, Retries, put_off_of, least_of, with_next, IsRetrying}
 
 -- ---- lists
@@ -84,45 +84,45 @@ fits-installed workers ns roles installed scheduled i next w front rest fits =
         (λ j. e j || is_among v installed) ∙ fits.done v write owned ∙ (λ j. ltb v next && not (has-middle v w front rest (eqb-false v w e) j))
 
 -- the pass after a try
-tried-installed : (p : Pass) (w : ℕ) → (looks : List Look) × (tried p w (head_found (names p.board) w Installed) ≡ record p { installed = w ∷ p.installed; looks = looks })
-tried-installed p w = (_, λ j. record p { installed = cond (eq-eqb (predecessor_of (names p.board) w) (predecessor_of (names p.board) w) refl j) (w ∷ p.installed) p.installed; looks = (tried p w (predecessor_of (names p.board) w)).looks })
+tried-installed : (p : Pass) (w : ℕ) → (looks : List Look) × (after_try p w (head_found (names p.board) w Installed) ≡ record p { installed = w ∷ p.installed; looks = looks })
+tried-installed p w = (_, λ j. record p { installed = cond (eq-eqb (predecessor_of (names p.board) w) (predecessor_of (names p.board) w) refl j) (w ∷ p.installed) p.installed; looks = (after_try p w (predecessor_of (names p.board) w)).looks })
 
-tried-put_off : (p : Pass) (w seen : ℕ) → IsCaused p w (PutOff seen) → (looks : List Look) × (tried p w (head_found (names p.board) w (PutOff seen)) ≡ record p { looks = looks })
+tried-put_off : (p : Pass) (w seen : ℕ) → IsCaused p w (PutOff seen) → (looks : List Look) × (after_try p w (head_found (names p.board) w (PutOff seen)) ≡ record p { looks = looks })
 tried-put_off p w seen behind =
     let below = behind.below in
-    (_, λ j. record p { installed = cond (ne_eqb seen (predecessor_of (names p.board) w) (λ e. omega arith) j) (w ∷ p.installed) p.installed; looks = (tried p w seen).looks })
+    (_, λ j. record p { installed = cond (ne_eqb seen (predecessor_of (names p.board) w) (λ e. omega arith) j) (w ∷ p.installed) p.installed; looks = (after_try p w seen).looks })
 
-pub list-installed : (p q : Pass) (i next w : ℕ) (front rest : List ℕ) → FitsList i next (front ++ w ∷ rest) p → q ≡ tried p w (head_found (names p.board) w Installed) → FitsList i next (front ++ rest) q
+pub list-installed : (p q : Pass) (i next w : ℕ) (front rest : List ℕ) → FitsList i next (front ++ w ∷ rest) p → q ≡ after_try p w (head_found (names p.board) w Installed) → FitsList i next (front ++ rest) q
 list-installed p q i next w front rest fits is =
     let e = tried-installed p w in
     subst (FitsList i next (front ++ rest)) (sym (is ∙ e.1)) (fits-installed p.board.workers (names p.board) p.roles p.installed p.scheduled i next w front rest fits)
 
-pub list-put_off : (p q : Pass) (i next w seen : ℕ) (list : List ℕ) → FitsList i next list p → IsCaused p w (PutOff seen) → q ≡ tried p w (head_found (names p.board) w (PutOff seen)) → FitsList i next list q
+pub list-put_off : (p q : Pass) (i next w seen : ℕ) (list : List ℕ) → FitsList i next list p → IsCaused p w (PutOff seen) → q ≡ after_try p w (head_found (names p.board) w (PutOff seen)) → FitsList i next list q
 list-put_off p q i next w seen list fits behind is =
     let e = tried-put_off p w seen behind in
     subst (FitsList i next list) (sym (is ∙ e.1)) fits
 
 -- ---- one try more
 
-tries-more : (p q r : Pass) (list : List ℕ) (results : List Install) (w : ℕ) (result : Install) → Tries p q list results → IsCaused q w result → r ≡ tried q w (head_found (names q.board) w result) → Tries p r (list ++ w ∷ []) (results ++ result ∷ [])
-tries-more p q r [] [] w result h put is = (subst (λ (x : Pass). IsCaused x w result) h put, is ∙ (λ j. tried (h j) w (head_found (names (h j).board) w result)))
+tries-more : (p q r : Pass) (list : List ℕ) (results : List Install) (w : ℕ) (result : Install) → Tries p q list results → IsCaused q w result → r ≡ after_try q w (head_found (names q.board) w result) → Tries p r (list ++ w ∷ []) (results ++ result ∷ [])
+tries-more p q r [] [] w result h put is = (subst (λ (x : Pass). IsCaused x w result) h put, is ∙ (λ j. after_try (h j) w (head_found (names (h j).board) w result)))
 tries-more p q r [] (x ∷ results) w result h put is = absurd h
 tries-more p q r (v ∷ list) [] w result h put is = absurd h
-tries-more p q r (v ∷ list) (x ∷ results) w result h put is = (h.0, tries-more (tried p v (head_found (names p.board) v x)) q r list results w result h.1 put is)
+tries-more p q r (v ∷ list) (x ∷ results) w result h put is = (h.0, tries-more (after_try p v (head_found (names p.board) v x)) q r list results w result h.1 put is)
 
 put_off-installed : (p q : Pass) (list : List ℕ) (results : List Install) (w : ℕ) → Tries p q list results → put_off_of (list ++ w ∷ []) (results ++ Installed ∷ []) ≡ put_off_of list results
 put_off-installed p q [] [] w h = refl
 put_off-installed p q [] (x ∷ results) w h = absurd h
 put_off-installed p q (v ∷ list) [] w h = absurd h
-put_off-installed p q (v ∷ list) (Installed ∷ results) w h = put_off-installed (tried p v (head_found (names p.board) v Installed)) q list results w h.1
-put_off-installed p q (v ∷ list) (PutOff s ∷ results) w h = ap (λ (l : List ℕ). v ∷ l) (put_off-installed (tried p v (head_found (names p.board) v (PutOff s))) q list results w h.1)
+put_off-installed p q (v ∷ list) (Installed ∷ results) w h = put_off-installed (after_try p v (head_found (names p.board) v Installed)) q list results w h.1
+put_off-installed p q (v ∷ list) (PutOff s ∷ results) w h = ap (λ (l : List ℕ). v ∷ l) (put_off-installed (after_try p v (head_found (names p.board) v (PutOff s))) q list results w h.1)
 
 put_off-more : (p q : Pass) (list : List ℕ) (results : List Install) (w seen : ℕ) → Tries p q list results → put_off_of (list ++ w ∷ []) (results ++ PutOff seen ∷ []) ≡ put_off_of list results ++ w ∷ []
 put_off-more p q [] [] w seen h = refl
 put_off-more p q [] (x ∷ results) w seen h = absurd h
 put_off-more p q (v ∷ list) [] w seen h = absurd h
-put_off-more p q (v ∷ list) (Installed ∷ results) w seen h = put_off-more (tried p v (head_found (names p.board) v Installed)) q list results w seen h.1
-put_off-more p q (v ∷ list) (PutOff s ∷ results) w seen h = ap (λ (l : List ℕ). v ∷ l) (put_off-more (tried p v (head_found (names p.board) v (PutOff s))) q list results w seen h.1)
+put_off-more p q (v ∷ list) (Installed ∷ results) w seen h = put_off-more (after_try p v (head_found (names p.board) v Installed)) q list results w seen h.1
+put_off-more p q (v ∷ list) (PutOff s ∷ results) w seen h = ap (λ (l : List ℕ). v ∷ l) (put_off-more (after_try p v (head_found (names p.board) v (PutOff s))) q list results w seen h.1)
 
 -- ---- the loop
 
@@ -170,7 +170,7 @@ module _ (old now : Pass) (i next : ℕ) (before list : List ℕ) (place kept : 
   pub retry-ready : IsWaiting now.board.workers (names now.board) now.scheduled i next (get_or list place 0) × (is_among (get_or list place 0) now.installed ≡ false)
   retry-ready = waiting-at now.board.workers (names now.board) now.roles now.installed now.scheduled i next (get_or list place 0) (take kept list) (drop (place + 1) list) fits_now
 
-  tries-next : (new : Pass) (result : Install) → IsCaused now (get_or list place 0) result → new ≡ tried now (get_or list place 0) (head_found (names now.board) (get_or list place 0) result)
+  tries-next : (new : Pass) (result : Install) → IsCaused now (get_or list place 0) result → new ≡ after_try now (get_or list place 0) (head_found (names now.board) (get_or list place 0) result)
       → Tries old new (take (place + 1) before) (h.results ++ result ∷ [])
   tries-next new result put is =
       let count = h.count in
@@ -178,7 +178,7 @@ module _ (old now : Pass) (i next : ℕ) (before list : List ℕ) (place kept : 
       subst (λ (l : List ℕ). Tries old new l (h.results ++ result ∷ [])) (ap (λ (w : ℕ). take place before ++ w ∷ []) same ∙ sym (take_next before place (omega arith)))
       (tries-more old now new (take place before) h.results (get_or list place 0) result h.tries put is)
 
-  pub retry-installed : (new : Pass) → IsCaused now (get_or list place 0) Installed → new ≡ tried now (get_or list place 0) (head_found (names now.board) (get_or list place 0) Installed)
+  pub retry-installed : (new : Pass) → IsCaused now (get_or list place 0) Installed → new ≡ after_try now (get_or list place 0) (head_found (names now.board) (get_or list place 0) Installed)
       → IsRetrying old new i next before list (place + 1) kept
   retry-installed new put is =
       let order = h.order in
@@ -194,7 +194,7 @@ module _ (old now : Pass) (i next : ℕ) (before list : List ℕ) (place kept : 
         put_off = h.put_off ∙ sym (put_off-installed old now (take place before) h.results (get_or before place 0) h.tries) ∙ ap (λ (l : List ℕ). put_off_of l (h.results ++ Installed ∷ [])) (sym (take_next before place (omega arith)));
       }
 
-  pub retry-put_off : (new : Pass) (seen : ℕ) → IsCaused now (get_or list place 0) (PutOff seen) → new ≡ tried now (get_or list place 0) (head_found (names now.board) (get_or list place 0) (PutOff seen))
+  pub retry-put_off : (new : Pass) (seen : ℕ) → IsCaused now (get_or list place 0) (PutOff seen) → new ≡ after_try now (get_or list place 0) (head_found (names now.board) (get_or list place 0) (PutOff seen))
       → IsRetrying old new i next before (set list kept (get_or list place 0)) (place + 1) (kept + 1)
   retry-put_off new seen put is =
       let order = h.order in
@@ -368,7 +368,7 @@ least-left workers ns roles installed scheduled i next (x ∷ rest) owners fits 
 
 -- the next number was tried
 pub next-fits : (p q : Pass) (i next : ℕ) (list : List ℕ) (result : Install) → NumbersAreOwned p.board.workers → FitsList i next list p → IsWrite (names p.board) next → next ≤ p.scheduled → IsCaused p next result
-    → q ≡ tried p next (head_found (names p.board) next result) → FitsList i (next + p.board.workers) (with_next list next result) q
+    → q ≡ after_try p next (head_found (names p.board) next result) → FitsList i (next + p.board.workers) (with_next list next result) q
 next-fits p q i next list Installed owners fits write up_to put is =
     let e = tried-installed p next in
     subst (FitsList i (next + p.board.workers) list) (sym (is ∙ e.1)) (next-installed p.board.workers (names p.board) p.roles p.installed p.scheduled i next list owners fits write)

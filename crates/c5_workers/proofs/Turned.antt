@@ -12,7 +12,7 @@ use Rattle.c5_board.specs.declared.known.Look.{Look}
 use Rattle.c5_board.specs.Boards.{Pass, names, write_count}
 use Rattle.c5_workers.specs.declared.scheduler.Scheduler.{Scheduler}
 use Rattle.c5_workers.specs.Scheduling.{rows_with, first_write_count, IsLastOfEach, IsNext, IsReadyToRecord, LooksUp, PlacesRow, indexed_with}
-use Rattle.c5_plan.specs.Written.{row_count}
+use Rattle.c5_definitions.specs.WriteNumbers.{row_count}
 use Rattle.c5_workers.specs.Schedules.{FitsSchedule, Schedules, OnlySchedules, IsFullOfRows, SchedulesAll, TakesTurn}
 use Rattle.c5_workers.specs.declared.schedule_turn.ScheduleTurn.{ScheduleTurn}
 use Rattle.c5_workers.specs.declared.schedule_turn.ScheduleTurn.TheVariants as turns

@@ -11,7 +11,7 @@ use Rattle.c5_rows.specs.Numbers.{is_among}
 use Rattle.c5_board.specs.Boards.{Board, Pass, names, write_count, IsWorker}
 use Rattle.c5_board.specs.Passes.{IsSound, IsOutstanding, owner_in}
 use Rattle.c5_chains.specs.declared.install.Install.{Install}
-use Rattle.c5_chains.specs.Tries.{tried, head_found, IsCaused}
+use Rattle.c5_chains.specs.Tries.{after_try, head_found, IsCaused}
 use Rattle.c5_workers.specs.declared.worker.Worker.{Worker}
 use Rattle.c5_workers.specs.Tries.{IsWaiting, FitsList, Tries, least_of, with_next}
 use Rattle.c5_workers.specs.Work.{FitsWorker, IsNewWorker, with_scheduled, with_progress}
@@ -23,7 +23,7 @@ list-of i j next later list other q a b c fits = subst (λ (l : List ℕ). FitsL
 
 -- the next number was tried
 pub worker-next : (w after : Worker) (p q : Pass) (result : Install) → NumbersAreOwned p.board.workers → FitsWorker w p → w.next ≤ p.scheduled → p.scheduled ≤ write_count p.board → IsCaused p w.next result
-    → q ≡ tried p w.next (head_found (names p.board) w.next result) → after.i ≡ w.i → after.workers ≡ w.workers → after.next ≡ w.next + w.workers → after.put_off.items ≡ with_next w.put_off.items w.next result
+    → q ≡ after_try p w.next (head_found (names p.board) w.next result) → after.i ≡ w.i → after.workers ≡ w.workers → after.next ≡ w.next + w.workers → after.put_off.items ≡ with_next w.put_off.items w.next result
     → length after.put_off.items ≤ 64 → 64 ≤ vec_capacity after.put_off → FitsWorker after q
 worker-next w after p q result owners fits up_to most put is i workers next list few room =
     let board : q.board ≡ p.board = ap (λ (x : Pass). x.board) is in
@@ -83,7 +83,7 @@ pub tries-keep : (p q : Pass) (list : List ℕ) (results : List Install) → Tri
 tries-keep p q [] [] h = (ap (λ (x : Pass). x.board) h, ap (λ (x : Pass). x.scheduled) h)
 tries-keep p q [] (r ∷ results) h = absurd h
 tries-keep p q (w ∷ list) [] h = absurd h
-tries-keep p q (w ∷ list) (r ∷ results) h = tries-keep (tried p w (head_found (names p.board) w r)) q list results h.1
+tries-keep p q (w ∷ list) (r ∷ results) h = tries-keep (after_try p w (head_found (names p.board) w r)) q list results h.1
 
 -- the least number that isn't installed
 pub outstanding : (w : Worker) (p : Pass) → NumbersAreOwned p.board.workers → IsSound p → FitsWorker w p → IsOutstanding p w.i (least_of w.put_off.items w.next)

@@ -1,7 +1,7 @@
 -- When a scheduler fits a pass, and what its calls come to.
 use Rattle.std.specs.Prelude.{◌≡◌, ◌≤◌, ◌<◌, ◌+◌, ◌++◌, ℕ, true, List}
 use Rattle.c5_definitions.specs.WriteNumbers.{IsFirstWrite}
-use Rattle.c5_plan.specs.Written.{row_count}
+use Rattle.c5_definitions.specs.WriteNumbers.{row_count}
 use Rattle.c5_board.specs.declared.known.Look.{Look}
 use Rattle.c5_board.specs.Boards.{Board, Pass, names, write_count}
 use Rattle.c5_workers.specs.declared.scheduler.Scheduler.{Scheduler}

@@ -4,7 +4,7 @@ use Rattle.std.specs.Prelude.{◌≡◌, ◌≤◌, ◌+◌, ◌-◌, ◌==◌, 
 use Rattle.std.specs.Prelude.{Option, Some, None, if◌then◌else◌}
 use Rattle.c5_rows.specs.declared.writes.RowName.{RowName}
 use Rattle.c5_definitions.specs.WriteNumbers.{name_at, row_of, last_on_row, IsFirstWrite}
-use Rattle.c5_plan.specs.Written.{row_count}
+use Rattle.c5_definitions.specs.WriteNumbers.{row_count}
 use Rattle.c5_board.specs.Boards.{Pass, names, write_count}
 use Rattle.c5_chains.specs.Paths.{FollowsPath}
 use Rattle.c5_rows.specs.Sizes.{max_rows}

@@ -8,7 +8,7 @@ use Rattle.c5_rows.specs.Numbers.{is_among}
 use Rattle.c5_board.specs.Boards.{Pass, names}
 use Rattle.c5_chains.specs.declared.install.Install.{Install}
 use Rattle.c5_chains.specs.declared.install.Install.TheVariants.{Installed, PutOff}
-use Rattle.c5_chains.specs.Tries.{tried, head_found, IsCaused}
+use Rattle.c5_chains.specs.Tries.{after_try, head_found, IsCaused}
 
 -- each number is below those after it
 abbrev pub Ascends : List ℕ → Type 0
@@ -53,7 +53,7 @@ Tries p q [] [] = q ≡ p
 Tries p q [] (result ∷ results) = ⊥
 Tries p q (w ∷ list) [] = ⊥
 Tries p q (w ∷ list) (result ∷ results) = IsCaused p w result
-    × Tries (tried p w (head_found (names p.board) w result)) q list results
+    × Tries (after_try p w (head_found (names p.board) w result)) q list results
 
 -- those of the numbers that were put off
 abbrev pub put_off_of : List ℕ → List Install → List ℕ

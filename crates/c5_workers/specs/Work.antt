@@ -9,7 +9,7 @@ use Rattle.c5_board.specs.Passes.{owner_in, floor_of}
 use Rattle.c5_board.specs.Boards.{Pass, names, write_count, IsWorker}
 use Rattle.c5_chains.specs.declared.install.Install.{Install}
 use Rattle.c5_chains.specs.declared.install.Install.TheVariants.{Installed, PutOff}
-use Rattle.c5_chains.specs.Tries.{tried, head_found, IsCaused}
+use Rattle.c5_chains.specs.Tries.{after_try, head_found, IsCaused}
 use Rattle.c5_workers.specs.declared.worker.Worker.{Worker}
 use Rattle.c5_workers.specs.declared.work_turn.WorkTurn.{WorkTurn}
 use Rattle.c5_workers.specs.declared.work_turn.WorkTurn.TheVariants.{Did, NotYet, Done}
@@ -49,7 +49,7 @@ pub record HasTriedNext (old new : Worker) (p q : Pass) (result : Install) : Typ
   pub room : length old.put_off.items < max_put_off
   pub scheduled : old.next ≤ p.scheduled
   pub cause : IsCaused p old.next result
-  pub pass : q ≡ tried p old.next (head_found (names p.board) old.next result)
+  pub pass : q ≡ after_try p old.next (head_found (names p.board) old.next result)
   pub next : new.next ≡ old.next + old.workers
   pub list : new.put_off.items ≡ with_next old.put_off.items old.next result
 
@@ -81,7 +81,7 @@ abbrev pub with_progress : Pass → ℕ → ℕ → Pass
 with_progress p i x = record p { floors = with_number p.floors i x }
 
 -- nothing is put off, and the next number is above this one
-pub record IsIdle (w : Worker) (most : ℕ) : Type 0 where
+pub record HasNothingToTry (w : Worker) (most : ℕ) : Type 0 where
   pub none : w.put_off.items ≡ []
   pub above : most < w.next
 
@@ -89,7 +89,7 @@ pub record IsIdle (w : Worker) (most : ℕ) : Type 0 where
 -- installed is stored as progress
 pub record HasWorked (old new : Worker) (p q : Pass) (installed put_off : ℕ) : Type 0 where
   pub scheduled : ℕ
-  pub busy : ¬ IsIdle old scheduled
+  pub busy : ¬ HasNothingToTry old scheduled
   pub retried : Pass
   pub middle : Worker
   pub retries : Retries (with_scheduled p scheduled) retried old.put_off.items middle.put_off.items
@@ -104,8 +104,9 @@ pub record HasWorked (old new : Worker) (p q : Pass) (installed put_off : ℕ) :
   pub new_one : put_off ≡ put_off_by result
 
 abbrev pub WorksTurn : Worker → Worker → Pass → Pass → WorkTurn → Type 0
-WorksTurn old new p q Done = IsIdle old (write_count p.board) × (q ≡ p) × (new ≡ old)
-WorksTurn old new p q (NotYet scheduled) = IsIdle old scheduled × (old.next ≤ write_count p.board)
+WorksTurn old new p q Done = HasNothingToTry old (write_count p.board) × (q ≡ p) × (new ≡ old)
+WorksTurn old new p q (NotYet scheduled) = HasNothingToTry old scheduled
+    × (old.next ≤ write_count p.board)
     × (q ≡ with_progress (with_scheduled p scheduled) old.i old.next) × (new ≡ old)
 WorksTurn old new p q (Did installed put_off) = HasWorked old new p q installed put_off
 

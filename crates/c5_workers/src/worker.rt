@@ -5,7 +5,8 @@ ghost use Rattle.std.specs.Prelude.{IfOk};
 ghost use Rattle.c5_board.specs.Boards.{IsWorker};
 ghost use Rattle.c5_workers.specs.Tries.{Retries, least_of, with_next};
 ghost use Rattle.c5_workers.specs.Work.{IsNewWorker, FitsUnworked, IsSameWorker, FitsWorker};
-ghost use Rattle.c5_workers.specs.Work.{IsIdle, TriesNext, with_progress, WorksTurn, installed_by};
+ghost use Rattle.c5_workers.specs.Work.{HasNothingToTry, TriesNext, with_progress, WorksTurn};
+ghost use Rattle.c5_workers.specs.Work.{installed_by};
 ghost use Rattle.c5_workers.specs.Work.{put_off_by, OnlyWorks};
 ghost use Rattle.c5_workers.specs.Left.{TakesLeast, IsNextLeft, with_left};
 ghost use Rattle.c5_board.specs.Passes.{owner_in};
@@ -76,7 +77,7 @@ impl Worker {
 
     // Whether nothing is put off and the next number is above this one.
     fn is_idle(&self, most: u32) -> bool
-        ensures { IsTrue result ↔ IsIdle self.now most }
+        ensures { IsTrue result ↔ HasNothingToTry self.now most }
     {
         self.put_off.is_empty() && self.next > most
     }

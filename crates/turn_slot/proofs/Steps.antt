@@ -13,8 +13,8 @@ use Rattle.atomic_table.specs.Table.{State, Me, step, opening, takes, keeps, giv
 use Rattle.atomic_table.proofs.Lists.{at_set, set_else, at_longer, at_last}
 use Rattle.turn_slot.specs.declared.known.Known.{Known}
 use Rattle.turn_slot.specs.declared.known.Origin.{Origin}
-use Rattle.turn_slot.specs.declared.known.Stage.{Stage}
-use Rattle.turn_slot.specs.declared.known.Stage.TheVariants.{Without, Won, Out, Back}
+use Rattle.turn_slot.specs.declared.known.TurnStage.{TurnStage}
+use Rattle.turn_slot.specs.declared.known.TurnStage.TheVariants.{Without, Won, Out, Back}
 use Rattle.turn_slot.specs.Entries.{count_of, IsPassNumber, entries_of, AreOf, AreOthers, IsSeenOf}
 use Rattle.c5_rows.specs.Numbers.{is_among, numbers_from}
 use Rattle.turn_slot.specs.Views.{has_turn, pass_number, new_view, first_view, spent_view, others_view, single_view, joined_view, looked_view, saw_view, Fits, IsPlaced, IsSlotKept, tried, took, gave, ended}
@@ -78,7 +78,7 @@ module _ {V B E : Type 0} (base : V → B) (history : V → List E) (caller : E 
 
   -- ---- one view and the words change
 
-  moved : (s : St) (r : Rule s) (id : ℕ) (v w : K) (words : List ℕ) (homes : List (maybe.Option (Option V))) (log : List E) (holder : ℕ) (stage : Stage) (who : ℕ)
+  moved : (s : St) (r : Rule s) (id : ℕ) (v w : K) (words : List ℕ) (homes : List (maybe.Option (Option V))) (log : List E) (holder : ℕ) (stage : TurnStage) (who : ℕ)
       → get_elem? s.views id ≡ some v → w.numbers ≡ v.numbers → words ≡ holder ∷ count_of (length log) ∷ [] → IsPlaced base history stage homes origin.base log
       → (holder ≡ 0 → stage ≡ Without)
       → (holder ≢ 0 → ((who ≡ id) × (has_turn w.stage ≡ true)) ⊎ ((r.holder ≢ 0) × (who ≡ r.who) × (has_turn v.stage ≡ false)))
@@ -118,7 +118,7 @@ module _ {V B E : Type 0} (base : V → B) (history : V → List E) (caller : E 
   -- ---- the other seats
 
   -- a seat without the turn fits whatever the turn does
-  still : (log : List E) (holder holder' : ℕ) (stage stage' : Stage) (who who' : ℕ) (owner : ℕ → ℕ) (k : ℕ) (u : K) → has_turn u.stage ≡ false
+  still : (log : List E) (holder holder' : ℕ) (stage stage' : TurnStage) (who who' : ℕ) (owner : ℕ → ℕ) (k : ℕ) (u : K) → has_turn u.stage ≡ false
       → Fits caller origin log holder stage who owner k u → Fits caller origin log holder' stage' who' owner k u
   still log holder holder' stage stage' who who' owner k u idle f = record {
     same_origin = f.same_origin;
@@ -130,7 +130,7 @@ module _ {V B E : Type 0} (base : V → B) (history : V → List E) (caller : E 
   }
 
   -- and while the log grows by entries of others
-  beyond : (log more : List E) (holder : ℕ) (stage : Stage) (who : ℕ) (owner : ℕ → ℕ) (k : ℕ) (u : K) → has_turn u.stage ≡ false → AreOthers caller u.numbers more
+  beyond : (log more : List E) (holder : ℕ) (stage : TurnStage) (who : ℕ) (owner : ℕ → ℕ) (k : ℕ) (u : K) → has_turn u.stage ≡ false → AreOthers caller u.numbers more
       → Fits caller origin log holder stage who owner k u → Fits caller origin (log ++ more) holder stage who owner k u
   beyond log more holder stage who owner k u idle foreign f = record {
     same_origin = f.same_origin;
@@ -181,7 +181,7 @@ module _ {V B E : Type 0} (base : V → B) (history : V → List E) (caller : E 
         tt,
         subst (λ b. Rule (stepped s 0 (either b number n) id me.1 w keeps)) (sym (eq-eqb n 0 hit))
             (moved s r id v w (set s.words 0 number) s.homes r.log number Won id at refl (ap (λ (l : List ℕ). set l 0 number) r.words)
-            (subst (λ (st : Stage). IsPlaced base history st s.homes origin.base r.log) (r.free zero_word) r.place)
+            (subst (λ (st : TurnStage). IsPlaced base history st s.homes origin.base r.log) (r.free zero_word) r.place)
             (λ e. absurd (omega (arith, ours.0.0))) (λ _. inl (refl, refl)) r.callers
             (record {
               same_origin = f.same_origin;
@@ -229,7 +229,7 @@ module _ {V B E : Type 0} (base : V → B) (history : V → List E) (caller : E 
       let f = r.each id v at in
       let is_among : has_turn v.stage ≡ true = ap has_turn won in
       let t = f.turn is_among in
-      let l = subst (λ (st : Stage). IsPlaced base history st s.homes origin.base r.log) (t.1 ∙ won) r.place in
+      let l = subst (λ (st : TurnStage). IsPlaced base history st s.homes origin.base r.log) (t.1 ∙ won) r.place in
       let x : V = l.0 in
       let w : K = saw_view v (history x) Out in (
         w,
@@ -268,7 +268,7 @@ module _ {V B E : Type 0} (base : V → B) (history : V → List E) (caller : E 
       let t = f.turn is_among in
       let more : List E = grown.0 in
       let is : r.log ++ more ≡ history x = ap (λ (l : List E). l ++ more) (sym (f.seen_all out)) ∙ sym grown.1 in
-      let hole = subst (λ (st : Stage). IsPlaced base history st s.homes origin.base r.log) (t.1 ∙ out) r.place in
+      let hole = subst (λ (st : TurnStage). IsPlaced base history st s.homes origin.base r.log) (t.1 ∙ out) r.place in
       let lies : homes_after s.homes me.1 gives ≡ some (Some x) ∷ [] = ap (λ (c : List (ℕ × Option V)). homes_after s.homes c gives) carried ∙ ap (λ (hs : List (maybe.Option (Option V))). set hs 0 (some (Some x))) hole in
       let w : K = saw_view v (history x) Back in
       let known : AllNumbers (history x) = subst AllNumbers is (All-append (λ e. IsPassNumber origin.passes (caller e)) r.log more r.callers
@@ -309,7 +309,7 @@ module _ {V B E : Type 0} (base : V → B) (history : V → List E) (caller : E 
         keeps,
         tt,
         moved s r id v w (set s.words 0 0) s.homes r.log 0 Without r.who at refl (ap (λ (ws : List ℕ). set ws 0 0) r.words)
-            (subst (λ (st : Stage). IsPlaced base history st s.homes origin.base r.log) (t.1 ∙ back) r.place)
+            (subst (λ (st : TurnStage). IsPlaced base history st s.homes origin.base r.log) (t.1 ∙ back) r.place)
             (λ _. refl) (λ busy. absurd (busy refl)) r.callers
             (record {
               same_origin = f.same_origin;
@@ -369,7 +369,7 @@ module _ {V B E : Type 0} (base : V → B) (history : V → List E) (caller : E 
   not_passed numbers seat owner n isnt = rw isnt
 
   -- a seat fits under another owner of each number, where its own numbers stay with it
-  reowned : (log : List E) (holder : ℕ) (stage : Stage) (who : ℕ) (owner owner' : ℕ → ℕ) (k : ℕ) (u : K) → ((n : ℕ) → is_among n u.numbers ≡ true → owner n ≡ k → owner' n ≡ k)
+  reowned : (log : List E) (holder : ℕ) (stage : TurnStage) (who : ℕ) (owner owner' : ℕ → ℕ) (k : ℕ) (u : K) → ((n : ℕ) → is_among n u.numbers ≡ true → owner n ≡ k → owner' n ≡ k)
       → Fits caller origin log holder stage who owner k u → Fits caller origin log holder stage who owner' k u
   reowned log holder stage who owner owner' k u stay f = record {
     same_origin = f.same_origin;
@@ -455,7 +455,7 @@ module _ {V B E : Type 0} (base : V → B) (history : V → List E) (caller : E 
       }
 
   -- what a joined seat knows fits
-  spent_fits : (log : List E) (holder : ℕ) (stage : Stage) (who : ℕ) (owner : ℕ → ℕ) (k : ℕ) → Fits caller origin log holder stage who owner k spent_view
+  spent_fits : (log : List E) (holder : ℕ) (stage : TurnStage) (who : ℕ) (owner : ℕ → ℕ) (k : ℕ) → Fits caller origin log holder stage who owner k spent_view
   spent_fits log holder stage who owner k = record {
     same_origin = λ o is. absurd (cc (is));
     numbers = λ n is. absurd (true≢false (sym is));
@@ -546,7 +546,7 @@ module _ {V B E : Type 0} (base : V → B) (history : V → List E) (caller : E 
       let f = r.each id v at in
       let free : r.stage ≡ Without = dite (ℕ_discrete r.holder 0) (λ e. r.free e)
       (λ busy. let h = held_by_other s r id v at (ap has_turn idle) busy in absurd (not_both (is_among r.holder v.numbers) (all r.holder h.0) h.1)) in
-      let l = subst (λ (st : Stage). IsPlaced base history st s.homes origin.base r.log) free r.place in
+      let l = subst (λ (st : TurnStage). IsPlaced base history st s.homes origin.base r.log) free r.place in
       let mine : AreOf caller v.numbers r.log = All-weaker (λ e. IsPassNumber origin.passes (caller e)) (λ e. has_number v (caller e)) (λ e is. all (caller e) is) r.log r.callers in
       (l.0, l.1, l.2, subst (λ (xs : List E). IsPrefix v.seen xs) (sym l.3) (seen_begins caller r.log v.numbers v.seen f.seen), l.3 ∙ seen_all_own caller r.log v.numbers v.seen mine f.seen)
 

@@ -16,12 +16,12 @@ module _ {V B E : Type 0} where
   passes slot = slot.table.shared.key.passes
 
   -- the base of the value that the slot was made with
-  abbrev pub base_of : (V → B) → TurnSlot V B E → B
-  base_of base slot = base slot.table.shared.key.value.value
+  abbrev pub slot_base : (V → B) → TurnSlot V B E → B
+  slot_base base slot = base slot.table.shared.key.value.value
 
   -- both
   abbrev pub origin_of : (V → B) → TurnSlot V B E → Origin B
-  origin_of base slot = record { base = base_of base slot; passes = passes slot }
+  origin_of base slot = record { base = slot_base base slot; passes = passes slot }
 
 module _ {V B E : Type 0} {G : Ghosts V B E} where
   -- the numbers that a pass unites, its own first

@@ -7,12 +7,12 @@ use lib.ListN.{get_elem?}
 use Rattle.atomic_table.specs.Table.{State, Me, Step}
 use Rattle.turn_slot.specs.declared.known.Known.{Known}
 use Rattle.turn_slot.specs.declared.known.Origin.{Origin}
-use Rattle.turn_slot.specs.declared.known.Stage.{Stage}
-use Rattle.turn_slot.specs.declared.known.Stage.TheVariants.{Without, Won, Out, Back}
+use Rattle.turn_slot.specs.declared.known.TurnStage.{TurnStage}
+use Rattle.turn_slot.specs.declared.known.TurnStage.TheVariants.{Without, Won, Out, Back}
 use Rattle.turn_slot.specs.Entries.{count_of, IsPassNumber, longer, IsSeenOf}
 use Rattle.c5_rows.specs.Numbers.{is_among, numbers_from}
 
-abbrev pub has_turn : Stage → Bool
+abbrev pub has_turn : TurnStage → Bool
 has_turn Without = false
 has_turn Won = true
 has_turn Out = true
@@ -68,7 +68,7 @@ module _ {B E : Type 0} where
       }
 
   -- the exchange found n
-  abbrev pub looked_view : Known B E → ℕ → Stage → Known B E
+  abbrev pub looked_view : Known B E → ℕ → TurnStage → Known B E
   looked_view v n stage =
       record {
         origin = v.origin;
@@ -79,7 +79,7 @@ module _ {B E : Type 0} where
       }
 
   -- this history was seen
-  abbrev pub saw_view : Known B E → List E → Stage → Known B E
+  abbrev pub saw_view : Known B E → List E → TurnStage → Known B E
   saw_view v seen stage =
       record { origin = v.origin; numbers = v.numbers; seen = seen; looks = v.looks; stage = stage }
 
@@ -98,7 +98,7 @@ module _ {B E : Type 0} where
       × (me.0.numbers ≡ number ∷ drop 1 me.0.numbers)
 
 module _ {B E : Type 0} (caller : E → ℕ) (origin : Origin B) (log : List E) (holder : ℕ)
-    (stage : Stage) (who : ℕ) (owner : ℕ → ℕ) where
+    (stage : TurnStage) (who : ℕ) (owner : ℕ → ℕ) where
   -- what the rule says of one seat
   pub record Fits (seat : ℕ) (v : Known B E) : Type 0 where
     pub same_origin : (o : Origin B) → v.origin ≡ Some o → o ≡ origin
@@ -116,7 +116,7 @@ module _ {V B E : Type 0} (base : V → B) (history : V → List E) where
   LiesIn homes b log = (x : V) × (homes ≡ some (Some x) ∷ []) × (base x ≡ b) × (history x ≡ log)
 
   -- where the value is: it lies in the slot, but where it is out with the turn
-  abbrev pub IsPlaced : Stage → List (maybe.Option (Option V)) → B → List E → Type 0
+  abbrev pub IsPlaced : TurnStage → List (maybe.Option (Option V)) → B → List E → Type 0
   IsPlaced Without homes b log = LiesIn homes b log
   IsPlaced Won homes b log = LiesIn homes b log
   IsPlaced Out homes b log = homes ≡ none ∷ []
@@ -128,7 +128,7 @@ pub record IsSlotKept {V B E : Type 0} (base : V → B) (history : V → List E)
     (origin : Origin B) (s : State (Option V) (Known B E)) : Type 0 where
   pub log : List E
   pub holder : ℕ
-  pub stage : Stage
+  pub stage : TurnStage
   pub who : ℕ
   pub owner : ℕ → ℕ
   pub words : s.words ≡ holder ∷ count_of (length log) ∷ []

@@ -5,7 +5,8 @@ ghost use mathlib.Core.List.{IsPrefix};
 ghost use Rattle.turn_slot.specs.Entries.{longer, entries_of, IsPassNumber, AreOf};
 ghost use Rattle.c5_rows.specs.Numbers.{is_among};
 ghost use Rattle.turn_slot.specs.Views.{pass_number};
-ghost use Rattle.turn_slot.specs.Passes.{passes, base_of, numbers, seen, looks, own, turn_numbers};
+ghost use Rattle.turn_slot.specs.Passes.{passes, slot_base, numbers, seen, looks, own};
+ghost use Rattle.turn_slot.specs.Passes.{turn_numbers};
 ghost use Rattle.turn_slot.specs.Passes.{turn_seen, turn_looks, IsPassOf, IsTurnOf, HasAll, IfTook};
 ghost use Rattle.turn_slot.specs.Passes.{IfBusy, IsTook};
 
@@ -32,7 +33,7 @@ impl<V: Kept> TurnSlot<V> {
         ensures turn { IfTook result
             (λ x t. IsTurnOf self.now t × (turn_numbers t ≡ numbers pass)) }
         ensures took { IfTook result (λ x t. turn_looks t ≡ looks pass ++ 0 ∷ []) }
-        ensures base { IfTook result (λ x t. V.base x ≡ base_of V.base self.now) }
+        ensures base { IfTook result (λ x t. V.base x ≡ slot_base V.base self.now) }
         ensures history { IfTook result (λ x t. turn_seen t ≡ V.history x) }
         ensures seen { IfTook result (λ x t. IsPrefix (seen pass) (V.history x)) }
         ensures own { IfTook result
@@ -67,7 +68,7 @@ impl<V: Kept> TurnSlot<V> {
     /// Gives the value back, and ends the turn.
     pub fn give(&self, turn: Turn<V>, value: V) -> Pass<V>
         requires turn { IsTurnOf self.now turn }
-        requires base { V.base value ≡ base_of V.base self.now }
+        requires base { V.base value ≡ slot_base V.base self.now }
         requires history { (more : List V.Entry) × (V.history value ≡ turn_seen turn ++ more)
             × AreOf V.caller (turn_numbers turn) more }
         ensures pass { IsPassOf self.now result }
@@ -107,7 +108,7 @@ impl<V: Kept> TurnSlot<V> {
     pub fn close(self, pass: Pass<V>) -> V
         requires pass { IsPassOf self pass }
         requires all { HasAll self pass }
-        ensures base { V.base result ≡ base_of V.base self }
+        ensures base { V.base result ≡ slot_base V.base self }
         ensures seen { IsPrefix (seen pass) (V.history result) }
         ensures own { V.history result ≡ own pass }
     {

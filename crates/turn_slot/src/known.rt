@@ -9,7 +9,7 @@ pub struct Origin<B> {
 }
 
 /// How far a pass has come with the turn.
-pub enum Stage {
+pub enum TurnStage {
     /// It hasn't the turn.
     Without,
     /// It has the turn, and the value lies in the slot still.
@@ -30,5 +30,5 @@ pub struct Known<B, E> {
     pub seen: LinkedList<E>,
     /// The holder words that its exchanges found.
     pub looks: LinkedList<u64>,
-    pub stage: Stage,
+    pub stage: TurnStage,
 }

@@ -3,7 +3,7 @@
 ghost use Rattle.std.specs.Prelude.{◌≡◌, ◌≤◌, [], ◌∷◌, IfOk, map, All, vec_capacity};
 ghost use Rattle.c5_rows.specs.Numbers.{numbers_from};
 ghost use Rattle.turn_slot.specs.Views.{first_view};
-ghost use Rattle.turn_slot.specs.Passes.{passes as passes_of, base_of, origin_of, numbers, IsNew};
+ghost use Rattle.turn_slot.specs.Passes.{passes as passes_of, slot_base, origin_of, numbers, IsNew};
 ghost use Rattle.c5_rows.specs.Sizes.{max_passes};
 
 use crate::kept::Kept;
@@ -28,7 +28,7 @@ impl<V: Kept> TurnSlot<V> {
         requires passes { (1 ≤ passes) × (passes ≤ max_passes) }
         requires empty { V.history value ≡ [] }
         ensures slot { IfOk result
-            (λ r. (passes_of r.0 ≡ passes) × (base_of V.base r.0 ≡ V.base value)) }
+            (λ r. (passes_of r.0 ≡ passes) × (slot_base V.base r.0 ≡ V.base value)) }
         ensures new { IfOk result (λ r. All (IsNew r.0) r.1.items) }
         ensures numbers { IfOk result
             (λ r. map numbers r.1.items ≡ map (λ n. n ∷ []) (numbers_from 1 passes)) }

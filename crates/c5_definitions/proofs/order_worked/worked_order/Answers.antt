@@ -7,7 +7,7 @@ use Rattle.c5_rows.specs.declared.writes.RowName.{RowName}
 use Rattle.c5_rows.specs.Order.{row_name_cmp, row_name_cmp_total}
 use Rattle.c5_definitions.specs.Eval.{write_of}
 use Rattle.c5_definitions.specs.Follows.{own_writes}
-use Rattle.c5_definitions.specs.History.{begun, commits, ended, open_txns, last_stamp, version_at, row_seen, row_of_version, reads, answered}
+use Rattle.c5_definitions.specs.History.{begun, commits, ended_stamps, open_txns, last_stamp, version_at, row_seen, row_of_version, reads, answered}
 use Rattle.c5_definitions.specs.OrderLog.{conflicts, committed, history_log, IsOrderHistory}
 use Rattle.c5_definitions.proofs.order_worked.worked_order.Goals as goal
 
@@ -18,7 +18,7 @@ one_write name row =
     ∙ ap (put row_name_cmp name row) (nil_from_length (entries (empty {R = row_name_cmp})) (sym (len-entries (empty {R = row_name_cmp})) ∙ len-empty row_name_cmp (Option (List Cell))))))
 
 pub returns : goal.returns
-unfolding begun commits ended open_txns last_stamp version_at row_seen row_of_version reads answered conflicts committed history_log IsOrderHistory
+unfolding begun commits ended_stamps open_txns last_stamp version_at row_seen row_of_version reads answered conflicts committed history_log IsOrderHistory
 returns c = record {
   allowed = (
     record { script_known = lit< tt; not_committed = refl; not_open = refl; next = refl; fits = lit< tt },

@@ -4,7 +4,7 @@ use Rattle.c5_rows.specs.Sizes.{max_rows}
 use Rattle.c5_rows.specs.declared.tables.TableDef.{TableDef}
 use Rattle.c5_definitions.specs.WriteNumbers.{names_in}
 use Rattle.c5_frames.specs.Log.{Log}
-use Rattle.c5_plan.specs.Written.{row_count}
+use Rattle.c5_definitions.specs.WriteNumbers.{row_count}
 use Rattle.c5_driver.specs.Backups.{IsLogOver}
 use Rattle.c5_driver.specs.declared.refusal.Refusal.TheVariants.{Limit}
 use Rattle.c5_driver.proofs.InputRefusals.{over-limits}

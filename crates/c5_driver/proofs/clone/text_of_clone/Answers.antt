@@ -4,7 +4,7 @@ use Rattle.c5_definitions.specs.Outputs.{order_text}
 use Rattle.c5_definitions.specs.SerialRun.{script_numbers}
 use Rattle.c5_definitions.specs.WriteNumbers.{names_in}
 use Rattle.c5_frames.specs.Log.{Log}
-use Rattle.c5_plan.specs.Written.{row_count}
+use Rattle.c5_definitions.specs.WriteNumbers.{row_count}
 use Rattle.c5_driver.proofs.Passed.{few-rows}
 use Rattle.c5_driver.proofs.Replays.{cloned}
 use Rattle.c5_driver.proofs.clone.text_of_clone.Goals as goal

@@ -2,7 +2,7 @@ use Rattle.std.proofs.Common.{ap, refl}
 use Rattle.std.specs.Prelude.{option_map}
 use Rattle.c5_rows.specs.Sizes.{max_rows}
 use Rattle.c5_definitions.specs.WriteNumbers.{names_in}
-use Rattle.c5_plan.specs.Written.{row_count}
+use Rattle.c5_definitions.specs.WriteNumbers.{row_count}
 use Rattle.c5_driver.specs.declared.refusal.Refusal.TheVariants.{Limit}
 use Rattle.c5_driver.proofs.Passed.{none-passed, rows-passed, not-too-many}
 use Rattle.c5_driver.proofs.limits.rows_within.Goals as goal

@@ -1,6 +1,6 @@
 use Rattle.std.proofs.Common.{◌<◌, arith}
 use Rattle.c5_definitions.specs.WriteNumbers.{names_in}
-use Rattle.c5_plan.specs.Written.{row_count}
+use Rattle.c5_definitions.specs.WriteNumbers.{row_count}
 use Rattle.c5_plan.proofs.Noting.{row_count-le, at_none}
 use Rattle.c5_plan.proofs.written.count_rows.Goals as goal
 

@@ -11,8 +11,8 @@ pub loop-read-preserved : goal.loop-read-preserved
 loop-read-preserved g c =
     let inv = c.loop-read.invariant in
     let read = c.read-item.result in
-    let S = c.args.stage.now.start.now in
-    let R = c.args.stage.now.reads.now in
+    let S = c.args.shared.now.start.now in
+    let R = c.args.shared.now.reads.now in
     let done = inv.answered.0 in
     let e = c.in_ok-answer_next.ensures {u = tt} in
     let only = c.wait_after.ensures.pass in

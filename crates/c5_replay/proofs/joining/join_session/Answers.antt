@@ -11,9 +11,9 @@ use Rattle.c5_replay.proofs.joining.join_session.Goals as goal
 
 pub returns-clause-replied : goal.returns-clause-replied
 returns-clause-replied c =
-    let S = c.args.stage.now.start.now in
-    let R = c.args.stage.now.reads.now in
-    let h = ended-as c.args.stage.now.board.now S R (roles.Session c.args.session) _ _ c.in-Session.is (c.in_ok-own.ensures {u = tt}).end in
+    let S = c.args.shared.now.start.now in
+    let R = c.args.shared.now.reads.now in
+    let h = ended-as c.args.shared.now.board.now S R (roles.Session c.args.session) _ _ c.in-Session.is (c.in_ok-own.ensures {u = tt}).end in
     let number : c.in-Session.session ≡ c.args.session = ap number_in h.0 in
     let own = subst (λ (n : ℕ). HasAnswered c.in-Session.own S (reads_of_session R n) c.in-Session.more.items) number h.1.1 in
     let next : (c.args.session - 1) + 1 ≡ c.args.session = (let some = c.requires.some in omega arith) in

@@ -13,13 +13,13 @@ use Rattle.c5_replay.proofs.joining.join_sessions.Goals as goal
 pub join_session-requires-clause-next : goal.join_session-requires-clause-next
 join_session-requires-clause-next c =
     let some : 1 ≤ max_sessions - c.loop-before.before = (let t = c.loop-before-test.true in omega arith) in
-    (next-ended c.args.stage.now.board.now c.args.stage.now.start.now c.args.stage.now.reads.now (λ x. roles.Session x) (c.loop-before.before + 1) (max_sessions - c.loop-before.before) (worker_roles c.args.stage.now.board.now.workers) c.loop-before.ends.items some c.loop-before.invariant.ends).0
+    (next-ended c.args.shared.now.board.now c.args.shared.now.start.now c.args.shared.now.reads.now (λ x. roles.Session x) (c.loop-before.before + 1) (max_sessions - c.loop-before.before) (worker_roles c.args.shared.now.board.now.workers) c.loop-before.ends.items some c.loop-before.invariant.ends).0
 
 pub loop-before-preserved : goal.loop-before-preserved
 loop-before-preserved c =
-    let board = c.args.stage.now.board.now in
-    let S = c.args.stage.now.start.now in
-    let R = c.args.stage.now.reads.now in
+    let board = c.args.shared.now.board.now in
+    let S = c.args.shared.now.start.now in
+    let R = c.args.shared.now.reads.now in
     let k = c.loop-before.before in
     let some : 1 ≤ max_sessions - k = (let t = c.loop-before-test.true in omega arith) in
     let less : (max_sessions - k) - 1 ≡ max_sessions - (k + 1) = omega arith in

@@ -8,8 +8,8 @@ use Rattle.c5_replay.proofs.joining.join_sessions.Given as goal
 
 abbrev pub invariant-loop-before : goal.invariant-loop-before
 invariant-loop-before l = record {
-  pass : IsPassWith l.stage.board.now [] l.pass;
+  pass : IsPassWith l.shared.board.now [] l.pass;
   joined : IsJoined l.fn.pass l.pass;
-  replied : HaveReplied l.pass l.stage.start.now l.stage.reads.now l.before l.replies;
-  ends : HaveEnded l.stage.board.now l.stage.start.now l.stage.reads.now (map roles.Session (range_with_len (l.before + 1) (max_sessions - l.before)) ++ worker_roles l.stage.board.now.workers) l.ends.items;
+  replied : HaveReplied l.pass l.shared.start.now l.shared.reads.now l.before l.replies;
+  ends : HaveEnded l.shared.board.now l.shared.start.now l.shared.reads.now (map roles.Session (range_with_len (l.before + 1) (max_sessions - l.before)) ++ worker_roles l.shared.board.now.workers) l.ends.items;
 }

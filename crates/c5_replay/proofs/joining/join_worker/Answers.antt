@@ -10,9 +10,9 @@ use Rattle.c5_replay.proofs.joining.join_worker.Goals as goal
 
 pub returns-clause-worked : goal.returns-clause-worked
 returns-clause-worked c =
-    let board = c.args.stage.now.board.now in
+    let board = c.args.shared.now.board.now in
     let i = c.args.i in
-    let h = ended-as board c.args.stage.now.start.now c.args.stage.now.reads.now (roles.Worker i) _ _ c.in-Worker.is (c.in_ok-own.ensures {u = tt}).end in
+    let h = ended-as board c.args.shared.now.start.now c.args.shared.now.reads.now (roles.Worker i) _ _ c.in-Worker.is (c.in_ok-own.ensures {u = tt}).end in
     let number : c.in-Worker.i ≡ i = ap number_in h.0 in
     let with_i = subst (λ (n : ℕ). IsPassWith board (n ∷ []) c.in-Worker.own) number h.1.0 in
     let next : (i - 1) + 1 ≡ i = (let some = c.requires.some in omega arith) in

@@ -11,15 +11,15 @@ use Rattle.c5_replay.proofs.joining.join_workers.Goals as goal
 
 pub join_worker-requires-clause-next : goal.join_worker-requires-clause-next
 join_worker-requires-clause-next c =
-    let workers = c.args.stage.now.board.now.workers in
+    let workers = c.args.shared.now.board.now.workers in
     let some : 1 ≤ workers - c.loop-before.before = (let t = c.loop-before-test.true in let n = c.workers-before-end.ensures.value in omega arith) in
-    (next-ended c.args.stage.now.board.now c.args.stage.now.start.now c.args.stage.now.reads.now (λ x. roles.Worker x) (c.loop-before.before + 1) (workers - c.loop-before.before) [] c.loop-before.ends.items some c.loop-before.invariant.ends).0
+    (next-ended c.args.shared.now.board.now c.args.shared.now.start.now c.args.shared.now.reads.now (λ x. roles.Worker x) (c.loop-before.before + 1) (workers - c.loop-before.before) [] c.loop-before.ends.items some c.loop-before.invariant.ends).0
 
 pub loop-before-preserved : goal.loop-before-preserved
 loop-before-preserved c =
-    let board = c.args.stage.now.board.now in
-    let S = c.args.stage.now.start.now in
-    let R = c.args.stage.now.reads.now in
+    let board = c.args.shared.now.board.now in
+    let S = c.args.shared.now.start.now in
+    let R = c.args.shared.now.reads.now in
     let k = c.loop-before.before in
     let some : 1 ≤ board.workers - k = (let t = c.loop-before-test.true in let n = c.workers-before-end.ensures.value in omega arith) in
     let less : (board.workers - k) - 1 ≡ board.workers - (k + 1) = omega arith in

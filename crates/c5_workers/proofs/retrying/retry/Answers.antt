@@ -2,7 +2,7 @@ use Rattle.std.proofs.Common.{◌≡◌, ◌∙◌, ◌+◌, ◌≤◌, ◌<◌,
 use Rattle.c5_board.specs.Boards.{Board, Pass, names}
 use Rattle.c5_rows.specs.Numbers.{is_among}
 use Rattle.c5_chains.specs.declared.install.Install.TheVariants.{Installed, PutOff}
-use Rattle.c5_chains.specs.Tries.{tried, head_found}
+use Rattle.c5_chains.specs.Tries.{after_try, head_found}
 use Rattle.c5_workers.specs.Tries.{IsRetrying}
 use Rattle.c5_workers.proofs.TryLemmas.{retry-ready, retry-installed, retry-put_off, retried}
 use Rattle.c5_workers.proofs.retrying.retry.Goals as goal
@@ -29,7 +29,7 @@ loop-place-preserved c =
     let less : c.loop-place.place < length c.loop-place.list = omega arith in
     elim c.match-try_install.branch [
       | in-Installed w ↦
-          let is = subst (λ (b : Board). c.try_install.new.pass ≡ tried c.loop-place.pass (get_or c.loop-place.list c.loop-place.place 0) (head_found (names b) (get_or c.loop-place.list c.loop-place.place 0) Installed)) (sym c.loop-place.invariant.board) w.in-Installed.ensures.pass in
+          let is = subst (λ (b : Board). c.try_install.new.pass ≡ after_try c.loop-place.pass (get_or c.loop-place.list c.loop-place.place 0) (head_found (names b) (get_or c.loop-place.list c.loop-place.place 0) Installed)) (sym c.loop-place.invariant.board) w.in-Installed.ensures.pass in
           record {
             board = ap (λ (p : Pass). p.board) w.in-Installed.ensures.pass ∙ c.loop-place.invariant.board;
             retrying = subst (λ (l : List ℕ). IsRetrying c.args.pass.now c.try_install.new.pass c.args.i c.args.next c.args.list.now l (c.loop-place.place + 1) c.match-try_install.kept) (sym w.list-is)
@@ -37,7 +37,7 @@ loop-place-preserved c =
                 (retry-installed _ _ _ _ _ _ _ _ c.loop-place.invariant.retrying less c.try_install.new.pass w.in-Installed.ensures.cause is));
           }
       | in-PutOff w ↦
-          let is = subst (λ (b : Board). c.try_install.new.pass ≡ tried c.loop-place.pass (get_or c.loop-place.list c.loop-place.place 0) (head_found (names b) (get_or c.loop-place.list c.loop-place.place 0) (PutOff w.in-PutOff.seen))) (sym c.loop-place.invariant.board) w.in-PutOff.ensures.pass in
+          let is = subst (λ (b : Board). c.try_install.new.pass ≡ after_try c.loop-place.pass (get_or c.loop-place.list c.loop-place.place 0) (head_found (names b) (get_or c.loop-place.list c.loop-place.place 0) (PutOff w.in-PutOff.seen))) (sym c.loop-place.invariant.board) w.in-PutOff.ensures.pass in
           record {
             board = ap (λ (p : Pass). p.board) w.in-PutOff.ensures.pass ∙ c.loop-place.invariant.board;
             retrying = subst (λ (l : List ℕ). IsRetrying c.args.pass.now c.try_install.new.pass c.args.i c.args.next c.args.list.now l (c.loop-place.place + 1) c.match-try_install.kept) (sym w.list-is)

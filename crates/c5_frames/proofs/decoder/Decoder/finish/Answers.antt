@@ -1,6 +1,6 @@
 use Rattle.std.proofs.Common.{◌∙◌, ap, sym, subst, ℕ, List}
 use Rattle.c5_definitions.specs.Items.{log_of}
-use Rattle.c5_frames.specs.Feeding.{Finishes}
+use Rattle.c5_frames.specs.Feeding.{FinishesLog}
 use Rattle.c5_frames.proofs.Fed.{faulty-log, never-both, refused}
 use Rattle.c5_frames.proofs.decoder.Decoder.finish.Goals as goal
 
@@ -13,4 +13,4 @@ returns-in-Some-clause-refused c = λ tables txns spells.
     never-both c.args.self c.in-Some.fault tables txns (returns-in-Some-clause-read c) spells
 
 pub returns-in-None-clause-refused : goal.returns-in-None-clause-refused
-returns-in-None-clause-refused c = refused c.args.self c.finish_log.result (subst (λ (bytes : List ℕ). Finishes bytes c.finish_log.result) c.self.view_is c.finish_log.ensures.read)
+returns-in-None-clause-refused c = refused c.args.self c.finish_log.result (subst (λ (bytes : List ℕ). FinishesLog bytes c.finish_log.result) c.self.view_is c.finish_log.ensures.read)

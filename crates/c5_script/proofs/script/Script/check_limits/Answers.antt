@@ -1,6 +1,6 @@
 use Rattle.std.proofs.Common.{◌≤◌, ◌<◌, length, arith}
 use Rattle.c5_rows.specs.Sizes.{max_transactions, max_writes, max_rows}
-use Rattle.c5_definitions.specs.Limits.{write_statements, written_rows}
+use Rattle.c5_definitions.specs.Limits.{write_statements, written_row_count}
 use Rattle.c5_script.proofs.Different.{within-few, within-names}
 use Rattle.c5_script.proofs.Excesses.{no-excess, too-many-transactions, too-many-writes, too-many-rows}
 use Rattle.c5_script.proofs.script.Script.check_limits.Goals as goal
@@ -32,7 +32,7 @@ returns-then-different-gt-MAX_ROWS c =
     let bodies = c.bodies-bodies.result.now in
     let few : length bodies ≤ max_transactions = omega (arith, c.if-bodies-gt-MAX_TRANSACTIONS.false) in
     let writes : write_statements bodies ≤ max_writes = omega (arith, c.if-count-gt-MAX_WRITES.false, c.writes_in-count.ensures) in
-    let more : max_rows < written_rows bodies = omega (arith, c.if-different-gt-MAX_ROWS.true, c.different.ensures _ c.in_ok-names.ensures) in
+    let more : max_rows < written_row_count bodies = omega (arith, c.if-different-gt-MAX_ROWS.true, c.different.ensures _ c.in_ok-names.ensures) in
     too-many-rows c.args.self.now bodies c.bodies-bodies.ensures.value few writes more
 
 pub returns : goal.returns

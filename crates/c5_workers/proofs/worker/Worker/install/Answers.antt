@@ -1,6 +1,6 @@
 use Rattle.std.proofs.Common.{◌≡◌, ◌∙◌, ap, sym, subst, arith}
 use Rattle.c5_board.specs.Boards.{Board, names, write_count}
-use Rattle.c5_chains.specs.Tries.{tried, head_found}
+use Rattle.c5_chains.specs.Tries.{after_try, head_found}
 use Rattle.c5_chains.specs.declared.install.Install.TheVariants.{Installed}
 use Rattle.c5_workers.proofs.LeftLemmas.{least-other, left-none, never-put_off, least-taken}
 use Rattle.c5_workers.proofs.worker.Worker.install.Goals as goal
@@ -24,5 +24,5 @@ pub returns-clause-fits : goal.returns-clause-fits
 returns-clause-fits c =
     let some = c.requires.fits.worker in
     let workers = c.requires.fits.workers in
-    let is = subst (λ (b : Board). c.try_install.new.pass ≡ tried c.args.pass.now c.args.w (head_found (names b) c.args.w Installed)) (sym c.requires.pass) c.in-Installed.ensures.pass in
+    let is = subst (λ (b : Board). c.try_install.new.pass ≡ after_try c.args.pass.now c.args.w (head_found (names b) c.args.w Installed)) (sym c.requires.pass) c.in-Installed.ensures.pass in
     least-taken c.args.self.now _ c.args.pass.now _ c.args.w (c.number_law.ensures.owners c.args.pass.now.board.workers (omega arith)) c.requires.fits c.requires.next (sym c.least.ensures ∙ c.if-least-w.false) c.in-Installed.ensures.cause is c.take_least.ensures

@@ -10,7 +10,7 @@ pub const MAX_STALLED: u32 = 1_000;
 /// What the parts of a replay share: the board, the rows at the start, and the read blocks of all
 /// sessions.
 #[derive(Clone, Copy)]
-pub struct Stage<'a> {
+pub struct Shared<'a> {
     pub board: &'a Board<'a>,
     pub start: &'a Rows,
     pub reads: &'a [ReadBlock],
