@@ -15,7 +15,8 @@ EndsDigits [] = Unit {0}
 EndsDigits (byte ∷ bytes) = byte < 48
 
 -- the same digits, and the same bytes after them
-pub digits-cut : (a b s t : List ℕ) → AllDigits 10 a → AllDigits 10 b → EndsDigits s → EndsDigits t → a ++ s ≡ b ++ t → (a ≡ b) × (s ≡ t)
+pub digits-cut : (a b s t : List ℕ) → AllDigits 10 a → AllDigits 10 b → EndsDigits s → EndsDigits t
+    → a ++ s ≡ b ++ t → (a ≡ b) × (s ≡ t)
 digits-cut [] [] s t da db es et e = (refl, e)
 digits-cut [] (y ∷ b) [] t da db es et e = absurd cc
 digits-cut [] (y ∷ b) (x ∷ s) t da db es et e =
@@ -37,10 +38,12 @@ digits-cut (x ∷ a) (y ∷ b) s t da db es et e =
     )
 
 -- the same number, and the same bytes after it
-pub number-cut : (m n : ℕ) (s t : List ℕ) → m < 2 ^ 64 → n < 2 ^ 64 → EndsDigits s → EndsDigits t → number_text m ++ s ≡ number_text n ++ t → (m ≡ n) × (s ≡ t)
+pub number-cut : (m n : ℕ) (s t : List ℕ) → m < 2 ^ 64 → n < 2 ^ 64 → EndsDigits s → EndsDigits t
+    → number_text m ++ s ≡ number_text n ++ t → (m ≡ n) × (s ≡ t)
 number-cut m n s t small_m small_n es et e =
     let rest : decimal m ++ s ≡ decimal n ++ t = cc in
-    let same = digits-cut (decimal m) (decimal n) s t (decimal_is_IsNumeral m small_m).0.1 (decimal_is_IsNumeral n small_n).0.1 es et rest in
+    let same = digits-cut (decimal m) (decimal n) s t (decimal_is_IsNumeral m small_m).0.1
+    (decimal_is_IsNumeral n small_n).0.1 es et rest in
     (decimal_injective m n small_m small_n same.0, same.1)
 
 pub word_end-ends : (bytes : List ℕ) → IsTrue (is_word_end bytes) → EndsDigits bytes

@@ -1,6 +1,6 @@
 -- Faults of scripts that were worked out by hand.
-use Rattle.std.specs.Prelude.{◌≡◌, ℕ, List, [], ◌∷◌, ◌++◌, codes, Err}
-use Rattle.std.specs.List.{AllByRecursion}
+use Rattle.std.specs.Prelude.{◌≡◌, ℕ, List, [], ◌∷◌, ◌++◌, codes, replicate, Err}
+use Rattle.std.specs.List.{AllByRecursion, flat_map}
 use Rattle.c5_definitions.specs.declared.script.ScriptKind.{ScriptKind}
 use Rattle.c5_definitions.specs.declared.script.ScriptKind.TheVariants.{Byte, Quote, Word, Limit}
 use Rattle.c5_definitions.specs.declared.script.ScriptKind.TheVariants.{Count, Name, Table, Key}
@@ -161,4 +161,51 @@ word_faults =
     -- a read block that isn't closed
     record { bytes = codes "table acct int\nread 1\nrow acct a"; line = 4; kind = Unclosed } ∷
     record { bytes = []; line = 1; kind = Unclosed } ∷  -- no bytes
+    []
+
+-- the same lines so many times
+abbrev pub repeated : ℕ → List ℕ → List ℕ
+repeated count lines = flat_map (λ (line : List ℕ). line) (replicate count lines)
+
+-- 16 tables
+abbrev pub sixteen_tables : List ℕ
+sixteen_tables =
+    flat_map (λ letter. codes "table " ++ letter ∷ codes " int\n") (codes "abcdefghijklmnop")
+
+-- one line, word or block more than a script may have
+abbrev pub limit_faults : List FaultyScript
+limit_faults =
+    -- the 17th table
+    record {
+      bytes = sixteen_tables ++ codes "table q int\n";
+      line = 17;
+      kind = Limit;
+    } ∷
+    -- a table alone, as the 17th
+    record {
+      bytes = sixteen_tables ++ codes "table\n";
+      line = 17;
+      kind = Limit;
+    } ∷
+    -- statement 257 of a transaction, of any form
+    record {
+      bytes = codes "table acct int\ntxn\n" ++ repeated 256 (codes "del acct a\n")
+          ++ codes "put\n";
+      line = 259;
+      kind = Limit;
+    } ∷
+    -- line 17 of a read block
+    record {
+      bytes = codes "table acct int\nread 1\n" ++ repeated 16 (codes "row acct a\n")
+          ++ codes "row acct a\n";
+      line = 19;
+      kind = Limit;
+    } ∷
+    -- read block 257, without a session
+    record {
+      bytes = codes "table acct int\n" ++ repeated 256 (codes "read 1\nrow acct a\nend\n")
+          ++ codes "read\n";
+      line = 770;
+      kind = Limit;
+    } ∷
     []

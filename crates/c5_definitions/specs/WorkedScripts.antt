@@ -1,7 +1,7 @@
 -- Scripts that were worked by hand.
 use Rattle.std.specs.Prelude.{ℕ, List, [], ◌∷◌, ◌++◌, pos, negsuc, codes}
 use Rattle.c5_rows.specs.declared.cells.Cell.TheVariants.{Int, Txt}
-use Rattle.c5_definitions.specs.declared.script.Statement.TheVariants.{Put, Need, Add}
+use Rattle.c5_definitions.specs.declared.script.Statement.TheVariants.{Put, Del, Need, Add, Copy}
 use Rattle.c5_definitions.specs.declared.script.ReadLine.TheVariants.{OneRow, SumOf}
 use Rattle.c5_definitions.specs.declared.script.Rel.TheVariants as rels
 use Rattle.c5_definitions.specs.declared.script.TurnWord.TheVariants as turns
@@ -58,6 +58,26 @@ all_parts = record {
         ∷ SumOf 0 0 (codes "a" ∷ codes "b" ∷ []) ∷ [];
   } ∷ [];
   turns = turns.Worker 1 ∷ turns.Visible ∷ turns.Session 16 ∷ [];
+}
+
+-- the statements and relations that are not in the others, each once
+abbrev pub forms_text : List ℕ
+forms_text =
+    table_text ++ codes "txn\ndel acct a\ncopy acct a b\nend\ntxn\nneed acct a 0 lt -1\n"
+    ++ codes "need acct a 0 le 0\nneed acct a 0 eq 1\nneed acct a 0 gt 2\nend\n"
+
+abbrev pub forms_parts : ScriptParts
+forms_parts = record {
+  tables = worked_tables;
+  bodies =
+      (Del (record { table = 0; key = codes "a" })
+      ∷ Copy (record { table = 0; key = codes "a" }) (record { table = 0; key = codes "b" }) ∷ [])
+      ∷ (Need (record { table = 0; key = codes "a" }) 0 rels.Lt (negsuc 0)
+      ∷ Need (record { table = 0; key = codes "a" }) 0 rels.Le (pos 0)
+      ∷ Need (record { table = 0; key = codes "a" }) 0 rels.Eq (pos 1)
+      ∷ Need (record { table = 0; key = codes "a" }) 0 rels.Gt (pos 2) ∷ []) ∷ [];
+  reads = [];
+  turns = [];
 }
 
 -- in place of a number there is a bare word, or a text

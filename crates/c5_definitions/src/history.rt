@@ -15,7 +15,7 @@ pub struct OrderBase {
 }
 
 /// What a transaction did.
-#[derive(Debug, Drop)]
+#[derive(Drop)]
 pub enum Event {
     /// It began, to run the body of this number.
     Begin { script: u32 },
@@ -28,7 +28,7 @@ pub enum Event {
 }
 
 /// A call on an order book that took effect.
-#[derive(Debug, Drop)]
+#[derive(Drop)]
 pub struct Entry {
     /// The number of the caller that began the stamp.
     pub caller: u64,

@@ -5,6 +5,7 @@
 #![tactic(auto)]
 
 mod fault;
+mod generated_worked;
 mod history;
 mod keys;
 mod limits;
@@ -14,9 +15,11 @@ mod order_worked;
 mod outputs;
 mod script;
 mod scripts_worked;
+mod turns_worked;
 mod worked;
 
 pub use fault::{LogFault, LogKind};
+pub use generated_worked::{worked_draws, worked_sizes};
 pub use history::{Entry, Event, OrderBase};
 pub use keys::Keys;
 pub use limits::Excess;
@@ -28,6 +31,7 @@ pub use script::{ReadLine, Rel, ScriptFault, ScriptKind, Statement, TurnWord};
 pub use scripts_worked::{
     lines_read_back, words_read_back, worked_fronts, worked_script_faults, worked_scripts,
 };
+pub use turns_worked::worked_turns;
 pub use worked::{
     worked_answer, worked_bodies, worked_limits, worked_line_faults, worked_log, worked_log_faults,
     worked_rows, worked_serial_runs, worked_text_log, worked_text_rows,

@@ -52,7 +52,7 @@ pub enum Statement {
 }
 
 /// A line of a read block. Columns count from 0.
-#[derive(Clone, Copy, Debug, PartialEq, Eq)]
+#[derive(Clone, Copy, PartialEq, Eq)]
 pub enum ReadLine {
     /// Asks for a row.
     OneRow { name: RowName },

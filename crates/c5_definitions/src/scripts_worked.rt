@@ -13,6 +13,7 @@ ghost use Rattle.c5_definitions.specs.WorkedScripts.{table_text, table_parts, pu
 ghost use Rattle.c5_definitions.specs.WorkedScripts.{quoted_text, quoted_parts, all_text};
 ghost use Rattle.c5_definitions.specs.WorkedScripts.{all_parts, bad_number_text, bad_type_text};
 ghost use Rattle.c5_definitions.specs.WorkedScripts.{open_text, tab_text, quote_text, front_text};
+ghost use Rattle.c5_definitions.specs.WorkedScripts.{forms_text, forms_parts};
 
 /// Lines that are written one after the other are the lines of the bytes, also where the last has
 /// no line end.
@@ -34,6 +35,7 @@ pub fn worked_scripts()
     ensures put { script_of put_text ≡ Ok put_parts }
     ensures quoted { script_of quoted_text ≡ Ok quoted_parts }
     ensures all { script_of all_text ≡ Ok all_parts }
+    ensures forms { script_of forms_text ≡ Ok forms_parts }
 {}
 
 /// The first faults of bytes that are no scripts.

@@ -20,6 +20,7 @@ ghost use Rattle.c5_definitions.specs.WorkedRuns.{run_bodies, run_in_order, run_
 ghost use Rattle.c5_definitions.specs.WorkedRuns.{read_block, read_answer, counted_bodies};
 ghost use Rattle.c5_definitions.specs.WorkedScriptFaults.{HaveScriptFaults, line_faults};
 ghost use Rattle.c5_definitions.specs.WorkedScriptFaults.{count_faults, word_faults};
+ghost use Rattle.c5_definitions.specs.WorkedScriptFaults.{limit_faults};
 ghost use Rattle.c5_rows.specs.Sizes.{max_transactions, max_writes, max_rows};
 
 use crate::limits::Excess;
@@ -59,6 +60,7 @@ pub fn worked_line_faults()
     ensures lines { HaveScriptFaults line_faults }
     ensures counts { HaveScriptFaults count_faults }
     ensures words { HaveScriptFaults word_faults }
+    ensures limits { HaveScriptFaults limit_faults }
 {}
 
 /// How bodies of one statement end: each form, and each relation.

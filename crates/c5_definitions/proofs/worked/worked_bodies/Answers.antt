@@ -19,17 +19,23 @@ returns-clause-statements c = (
         (
           single (Del (at (codes "z"))) start None refl,
           (
-            single (Add (at (codes "a")) 0 (pos 5)) start (row_at_start (at (codes "a"))) (got (at (codes "a"))),
+            single (Add (at (codes "a")) 0 (pos 5)) start (row_at_start (at (codes "a")))
+                (got (at (codes "a"))),
             (
-              single (Add (at (codes "b")) 0 (pos 3)) start (row_at_start (at (codes "b"))) (got (at (codes "b"))),
+              single (Add (at (codes "b")) 0 (pos 3)) start (row_at_start (at (codes "b")))
+                  (got (at (codes "b"))),
               (
-                single (Add (at (codes "z")) 0 (pos 5)) start (row_at_start (at (codes "z"))) (got (at (codes "z"))),
+                single (Add (at (codes "z")) 0 (pos 5)) start (row_at_start (at (codes "z")))
+                    (got (at (codes "z"))),
                 (
-                  single (Add (at (codes "m")) 0 (pos 1)) start (row_at_start (at (codes "m"))) (got (at (codes "m"))),
+                  single (Add (at (codes "m")) 0 (pos 1)) start (row_at_start (at (codes "m")))
+                      (got (at (codes "m"))),
                   (
-                    single (Copy (at (codes "a")) (at (codes "c"))) start (row_at_start (at (codes "a"))) (got (at (codes "a"))),
+                    single (Copy (at (codes "a")) (at (codes "c"))) start
+                        (row_at_start (at (codes "a"))) (got (at (codes "a"))),
                     (
-                      single (Copy (at (codes "z")) (at (codes "a"))) start (row_at_start (at (codes "z"))) (got (at (codes "z"))),
+                      single (Copy (at (codes "z")) (at (codes "a"))) start
+                          (row_at_start (at (codes "z"))) (got (at (codes "z"))),
                       tt,
                     ),
                   ),
@@ -45,27 +51,38 @@ returns-clause-statements c = (
 
 pub returns-clause-needs : goal.returns-clause-needs
 returns-clause-needs c = (
-  single (Need (at (codes "a")) 0 Lt (pos 10)) start (row_at_start (at (codes "a"))) (got (at (codes "a"))),
+  single (Need (at (codes "a")) 0 Lt (pos 10)) start (row_at_start (at (codes "a")))
+      (got (at (codes "a"))),
   (
-    single (Need (at (codes "a")) 0 Lt (pos 11)) start (row_at_start (at (codes "a"))) (got (at (codes "a"))),
+    single (Need (at (codes "a")) 0 Lt (pos 11)) start (row_at_start (at (codes "a")))
+        (got (at (codes "a"))),
     (
-      single (Need (at (codes "a")) 0 Le (pos 9)) start (row_at_start (at (codes "a"))) (got (at (codes "a"))),
+      single (Need (at (codes "a")) 0 Le (pos 9)) start (row_at_start (at (codes "a")))
+          (got (at (codes "a"))),
       (
-        single (Need (at (codes "a")) 0 Le (pos 10)) start (row_at_start (at (codes "a"))) (got (at (codes "a"))),
+        single (Need (at (codes "a")) 0 Le (pos 10)) start (row_at_start (at (codes "a")))
+            (got (at (codes "a"))),
         (
-          single (Need (at (codes "a")) 0 Eq (pos 9)) start (row_at_start (at (codes "a"))) (got (at (codes "a"))),
+          single (Need (at (codes "a")) 0 Eq (pos 9)) start (row_at_start (at (codes "a")))
+              (got (at (codes "a"))),
           (
-            single (Need (at (codes "a")) 0 Eq (pos 10)) start (row_at_start (at (codes "a"))) (got (at (codes "a"))),
+            single (Need (at (codes "a")) 0 Eq (pos 10)) start (row_at_start (at (codes "a")))
+                (got (at (codes "a"))),
             (
-              single (Need (at (codes "b")) 0 Ge (negsuc 1)) start (row_at_start (at (codes "b"))) (got (at (codes "b"))),
+              single (Need (at (codes "b")) 0 Ge (negsuc 1)) start (row_at_start (at (codes "b")))
+                  (got (at (codes "b"))),
               (
-                single (Need (at (codes "b")) 0 Ge (negsuc 2)) start (row_at_start (at (codes "b"))) (got (at (codes "b"))),
+                single (Need (at (codes "b")) 0 Ge (negsuc 2)) start (row_at_start (at (codes "b")))
+                    (got (at (codes "b"))),
                 (
-                  single (Need (at (codes "b")) 0 Gt (negsuc 2)) start (row_at_start (at (codes "b"))) (got (at (codes "b"))),
+                  single (Need (at (codes "b")) 0 Gt (negsuc 2)) start
+                      (row_at_start (at (codes "b"))) (got (at (codes "b"))),
                   (
-                    single (Need (at (codes "b")) 0 Gt (negsuc 3)) start (row_at_start (at (codes "b"))) (got (at (codes "b"))),
+                    single (Need (at (codes "b")) 0 Gt (negsuc 3)) start
+                        (row_at_start (at (codes "b"))) (got (at (codes "b"))),
                     (
-                      single (Need (at (codes "z")) 0 Le (pos 0)) start (row_at_start (at (codes "z"))) (got (at (codes "z"))),
+                      single (Need (at (codes "z")) 0 Le (pos 0)) start
+                          (row_at_start (at (codes "z"))) (got (at (codes "z"))),
                       tt,
                     ),
                   ),

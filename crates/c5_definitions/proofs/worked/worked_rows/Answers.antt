@@ -20,4 +20,5 @@ printed = refl
 
 pub returns : goal.returns
 unfolding IsStrictlySortedBy
-returns c = ap (λ es. entries_text worked_tables (map entry_of es)) (entries_back one_row (tt, tt)) ∙ printed
+returns c = ap (λ es. entries_text worked_tables (map entry_of es))
+    (entries_back one_row (tt, tt)) ∙ printed

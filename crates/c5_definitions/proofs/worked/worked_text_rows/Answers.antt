@@ -12,7 +12,8 @@ use Rattle.c5_definitions.specs.Worked.{text_tables, text_text}
 use Rattle.c5_definitions.proofs.worked.worked_text_rows.Goals as goal
 
 abbrev one_row : List (RowName × List Cell)
-one_row = (record { table = 0; key = codes "k" }, Txt (codes "hello world") ∷ Int (negsuc 4) ∷ []) ∷ []
+one_row = (record { table = 0; key = codes "k" }, Txt (codes "hello world") ∷ Int (negsuc 4) ∷ [])
+    ∷ []
 
 printed : entries_text text_tables (map entry_of one_row) ≡ text_text
 unfolding digits
@@ -20,4 +21,5 @@ printed = refl
 
 pub returns : goal.returns
 unfolding IsStrictlySortedBy
-returns c = ap (λ es. entries_text text_tables (map entry_of es)) (entries_back one_row (tt, tt)) ∙ printed
+returns c = ap (λ es. entries_text text_tables (map entry_of es))
+    (entries_back one_row (tt, tt)) ∙ printed

@@ -1,0 +1,15 @@
+pub mod Names
+pub mod Balances
+pub mod Wrote
+pub mod Opening
+pub mod Transfers
+pub mod Drawn
+pub mod MoneyRuns
+pub mod FourSums
+pub mod LogBytes
+pub mod Counts
+pub mod FirstCounts
+pub mod ScriptFits
+pub mod ScriptLimits
+pub mod Growing
+pub mod Signs
