@@ -16,3 +16,4 @@ pub mod CopyLemmas
 pub mod LogLemmas
 pub mod NewBook
 pub mod Later
+mod WorkedTests

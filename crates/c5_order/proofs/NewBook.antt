@@ -1,5 +1,7 @@
 -- A new order book.
-use Rattle.std.proofs.Common.{◌≡◌, ◌<◌, ◌≤◌, ◌+◌, ℕ, zero, suc, Bool, true, false, cond, List, [], ◌∷◌, length, map, get_or, replicate, Option, Some, None, inl, inr, refl, ap, sym, subst, ◌∙◌, arith}
+use Rattle.std.proofs.Common.{◌≡◌, ◌<◌, ◌≤◌, ◌+◌, ℕ, zero, suc, Bool, true, false, cond, List, []}
+use Rattle.std.proofs.Common.{◌∷◌, length, map, get_or, replicate, Option, Some, None, inl, inr}
+use Rattle.std.proofs.Common.{refl, ap, sym, subst, ◌∙◌, arith}
 use Rattle.std.specs.Option.{unwrap_or}
 use Rattle.std.specs.List.{AllZip, Contains, list_any}
 use Rattle.std.specs.Map.{lookup}
@@ -31,7 +33,9 @@ first-open : (o : ℕ → Bool) → ((q : ℕ) → o q ≡ false) → (q : ℕ) 
 unfolding begun ended_stamps
 first-open o none q = none q
 
-first-parts : (base : OrderBase) (o : ℕ → Bool) (sts : List BodyState) (m : BTreeMap VersionKey ℕ) → ((q : ℕ) → o q ≡ false) → length sts ≡ length base.bodies → ((n : ℕ) → get_or sts n Free ≡ Free) → m.entries ≡ [] → Parts base base.last [] [] o sts m
+first-parts : (base : OrderBase) (o : ℕ → Bool) (sts : List BodyState) (m : BTreeMap VersionKey ℕ)
+    → ((q : ℕ) → o q ≡ false) → length sts ≡ length base.bodies
+    → ((n : ℕ) → get_or sts n Free ≡ Free) → m.entries ≡ [] → Parts base base.last [] [] o sts m
 unfolding begun commits ended_stamps last_stamp reads IsOrderHistory
 first-parts base o sts m none count free empty = record {
   allowed = tt;
@@ -39,7 +43,8 @@ first-parts base o sts m none count free empty = record {
   txns = tt;
   opened = first-open o none;
   count = count;
-  states = λ n lt. subst (HoldsState [] n) (sym (free n)) (λ b live same. absurd (omega (arith, live.0.1)));
+  states = λ n lt. subst (HoldsState [] n) (sym (free n))
+      (λ b live same. absurd (omega (arith, live.0.1)));
   marks = none-marked m empty;
 }
 
@@ -52,12 +57,19 @@ long-states : (n : ℕ) → length (replicate n Free) ≡ n
 long-states zero = refl
 long-states (suc n) = ap suc (long-states n)
 
-pub new-parts : (book : Book) → book.history.items ≡ [] → book.txns.items ≡ [] → book.open_stamps.keys ≡ [] → book.versions.entries ≡ [] → book.last ≡ book.first → book.states.items ≡ replicate (length book.bodies.now) Free
-    → Parts (base_of book) book.last book.history.items book.txns.items (contains nat_cmp book.open_stamps) book.states.items book.versions
+pub new-parts : (book : Book) → book.history.items ≡ [] → book.txns.items ≡ []
+    → book.open_stamps.keys ≡ [] → book.versions.entries ≡ [] → book.last ≡ book.first
+    → book.states.items ≡ replicate (length book.bodies.now) Free
+    → Parts (base_of book) book.last book.history.items book.txns.items
+    (contains nat_cmp book.open_stamps) book.states.items book.versions
 new-parts book history txns opens versions last states =
-    subst (λ l. Parts (base_of book) l book.history.items book.txns.items (contains nat_cmp book.open_stamps) book.states.items book.versions) (sym last)
-    (subst (λ h. Parts (base_of book) book.first h book.txns.items (contains nat_cmp book.open_stamps) book.states.items book.versions) (sym history)
-    (subst (λ t. Parts (base_of book) book.first [] t (contains nat_cmp book.open_stamps) book.states.items book.versions) (sym txns)
+    subst (λ l. Parts (base_of book) l book.history.items book.txns.items
+    (contains nat_cmp book.open_stamps) book.states.items book.versions) (sym last)
+    (subst (λ h. Parts (base_of book) book.first h book.txns.items
+    (contains nat_cmp book.open_stamps) book.states.items book.versions) (sym history)
+    (subst (λ t. Parts (base_of book) book.first [] t
+    (contains nat_cmp book.open_stamps) book.states.items book.versions) (sym txns)
     (first-parts (base_of book) (contains nat_cmp book.open_stamps) book.states.items book.versions
-    (λ q. ap (list_any (is_at (nat_cmp q))) opens) (ap length states ∙ long-states (length book.bodies.now))
+    (λ q. ap (list_any (is_at (nat_cmp q))) opens)
+    (ap length states ∙ long-states (length book.bodies.now))
     (λ n. ap (λ sts. get_or sts n Free) states ∙ free-states (length book.bodies.now) n) versions)))

@@ -14,6 +14,7 @@ use Rattle.c5_rows.specs.declared.writes.Txn.{Txn}
 use Rattle.c5_rows.specs.declared.cells.Cell.{Cell}
 use Rattle.c5_rows.specs.declared.writes.Change.{Change}
 use Rattle.c5_rows.specs.Order.{row_name_cmp}
+use Rattle.c5_rows.specs.Sizes.{max_transactions}
 use Rattle.c5_rows.specs.Writes.{change_of}
 use Rattle.c5_definitions.specs.declared.history.Entry.{Entry}
 use Rattle.c5_definitions.specs.declared.history.Event.{Event}
@@ -104,6 +105,7 @@ pub record HoldsBook (book : Book) : Type 0 where
   pub txns : AllZip (HoldsTxn book.history.items) (begun book.history.items) book.txns.items
   pub opened : (s : ℕ) → contains nat_cmp book.open_stamps s ≡ is_open s book.history.items
   pub room : length book.open_stamps.keys + vec_len book.history ≤ vec_capacity book.history
+  pub few : length book.bodies.now ≤ max_transactions
   pub count : length book.states.items ≡ length book.bodies.now
   pub states : (n : ℕ) → n < length book.bodies.now
       → HoldsState book.history.items n (slice_index_or book.states.items n Free)

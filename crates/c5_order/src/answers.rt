@@ -27,7 +27,7 @@ impl From<NoMemory> for BeginFault {
 }
 
 /// What a commit came to.
-#[derive(Clone, Copy, Debug, PartialEq, Eq)]
+#[derive(Clone, Copy, PartialEq, Eq)]
 pub enum Decision {
     /// The transaction is committed.
     Committed,

@@ -15,3 +15,6 @@ mod reading;
 pub use answers::{BeginFault, Decision};
 pub use law::{order_law, transaction_law};
 pub use order::{Order, OrderState};
+
+#[cfg(test)]
+mod tests;

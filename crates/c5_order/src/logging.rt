@@ -1,8 +1,9 @@
 //! The log of an order book, and what it says of its bodies.
 
-ghost use Rattle.std.specs.Prelude.{◌≡◌, ◌<◌, ◌≤◌, ◌+◌, ◌++◌, ◌∷◌, [], length, IfOk, OnOk};
+ghost use Rattle.std.specs.Prelude.{◌≡◌, ◌<◌, ◌≤◌, ◌+◌, ◌^◌, ◌++◌, ◌∷◌, [], length, IfOk, OnOk};
 ghost use Rattle.std.specs.Option.{option_copied};
 ghost use Rattle.c5_rows.specs.declared.writes.Write.{Write};
+ghost use Rattle.c5_definitions.specs.History.{last_stamp};
 ghost use Rattle.c5_definitions.specs.OrderLog.{committed, committed_stamp, history_log};
 ghost use Rattle.c5_order.specs.Answers.{IsLeastOpen};
 ghost use Rattle.c5_order.specs.Book.{HoldsBook, IsClosedCount, committed_at, committed_by, logged};
@@ -103,6 +104,15 @@ fn count_closed(book: &Book) -> usize
         Some(stamp) => place_of(book, stamp),
         None => book.txns.len(),
     }
+}
+
+/// How many transactions were begun.
+pub fn count_begun(book: &Book) -> usize
+    requires { HoldsBook book.now }
+    ensures last { last_stamp book.now.first book.now.history.items ≡ book.now.first + result }
+    ensures small { result < 2 ^ 63 }
+{
+    book.txns.len()
 }
 
 /// The committed transactions below the least open stamp, by stamp.

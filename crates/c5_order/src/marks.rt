@@ -13,14 +13,14 @@ use std::collections::BTreeMap;
 
 /// A version of a row: the row, and the stamp of the commit that wrote it. The start version has
 /// the stamp 0.
-#[derive(Clone, Copy, Debug, PartialEq, Eq, PartialOrd, Ord)]
+#[derive(Clone, Copy, PartialEq, Eq, PartialOrd, Ord)]
 pub struct VersionKey {
     pub name: RowName,
     pub wrote: u64,
 }
 
 /// A version that was found.
-#[derive(Clone, Copy, Debug, PartialEq, Eq)]
+#[derive(Clone, Copy, PartialEq, Eq)]
 pub struct Found {
     /// The stamp that wrote it; 0 for the start version.
     pub wrote: u64,
@@ -122,7 +122,7 @@ pub fn install(
 }
 
 /// A later stamp has read the version of a row that an earlier stamp sees.
-#[derive(Clone, Copy, Debug, PartialEq, Eq)]
+#[derive(Clone, Copy, PartialEq, Eq)]
 pub struct LaterReader {
     pub row: RowName,
     /// The greatest stamp that has read it.

@@ -1,7 +1,7 @@
 //! The order book.
 
-ghost use Rattle.std.specs.Prelude.{◌≡◌, ◌<◌, ◌≤◌, ◌+◌, ◌++◌, ◌∷◌, ◌⊎◌, [], length, Err, replicate};
-ghost use Rattle.std.specs.Prelude.{IfOk, OnOk, OnErr};
+ghost use Rattle.std.specs.Prelude.{◌≡◌, ◌<◌, ◌≤◌, ◌+◌, ◌^◌, ◌++◌, ◌∷◌, ◌⊎◌, [], length, Err};
+ghost use Rattle.std.specs.Prelude.{replicate, IfOk, OnOk, OnErr};
 ghost use Rattle.c5_definitions.specs.declared.history.Event.TheVariants as events;
 ghost use Rattle.c5_definitions.specs.History.{Begun, last_stamp, row_seen};
 ghost use Rattle.c5_definitions.specs.OrderLog.{IsOpen, IsOutcome, IsOrderHistory, committed};
@@ -9,6 +9,7 @@ ghost use Rattle.c5_definitions.specs.OrderLog.{committed_stamp, history_log};
 ghost use Rattle.c5_order.specs.declared.answers.BeginFault.TheVariants as faults;
 ghost use Rattle.c5_order.specs.declared.book.BodyState.TheVariants as bodies;
 ghost use Rattle.c5_order.specs.Answers.{begin_answer, after_decision, IsDecision, IsLeastOpen};
+ghost use Rattle.c5_order.specs.Book.{HoldsBook, base_of};
 ghost use Rattle.c5_rows.specs.Sizes.{max_transactions};
 
 use crate::answers::{BeginFault, Decision};
@@ -36,7 +37,8 @@ pub struct OrderState {
 /// left them, and what commits is a serial run in the order of the stamps.
 #[derive(Drop)]
 pub struct Order<'s> {
-    book: Book<'s>,
+    // In a box of its own: a turn slot moves the order out and back at each turn.
+    book: Box<Book<'s>>,
 }
 
 impl<'s> Model for Order<'s> {
@@ -52,9 +54,12 @@ impl<'s> Model for Order<'s> {
     ghost coded = { Prim.hlevel
         (codes, map.code {R = row_name_cmp} coded_row_name (coded_list coded_cell)) };
 
-    ghost view = { λ o. record { base = base_of o.book; history = o.book.history.items } };
+    ghost view = { λ o. record {
+      base = base_of o.book.value;
+      history = o.book.value.history.items;
+    } };
 
-    ghost invariant = { λ o. HoldsBook o.book };
+    ghost invariant = { λ o. HoldsBook o.book.value };
 }
 
 // So many bodies of which no transaction is open or committed.
@@ -62,6 +67,34 @@ fn free_states(alloc: Global, count: usize) -> Result<Vec<BodyState>, NoMemory>
     ensures { IfOk result (λ states. states.items ≡ replicate count bodies.Free) }
 {
     Ok(vec![in alloc; BodyState::Free; count]?)
+}
+
+// The parts of a book in which no transaction was begun.
+fn empty_book<'s>(
+    alloc: Global,
+    bodies: &'s [Body],
+    start: Rows,
+    last: u64,
+) -> Result<Book<'s>, NoMemory>
+    requires { length bodies.now ≤ max_transactions }
+    ensures holds { IfOk result HoldsBook }
+    ensures base { IfOk result
+        (λ book. base_of book ≡ record { bodies = bodies.now; start = start; last = last }) }
+    ensures history { IfOk result (λ book. book.history.items ≡ []) }
+{
+    let states = free_states(alloc, bodies.len())?;
+    Ok(Book {
+        alloc,
+        bodies,
+        start,
+        first: last,
+        last,
+        history: Vec::new(alloc),
+        txns: Vec::new(alloc),
+        open_stamps: BTreeSet::new(alloc),
+        states,
+        versions: BTreeMap::new(alloc),
+    })
 }
 
 impl<'s> Order<'s> {
@@ -79,21 +112,11 @@ impl<'s> Order<'s> {
               history = [];
             }) }
     {
-        let states = free_states(alloc, bodies.len())?;
-        Ok(Order {
-            book: Book {
-                alloc,
-                bodies,
-                start,
-                first: last,
-                last,
-                history: Vec::new(alloc),
-                txns: Vec::new(alloc),
-                open_stamps: BTreeSet::new(alloc),
-                states,
-                versions: BTreeMap::new(alloc),
-            },
-        })
+        let parts = empty_book(alloc, bodies, start, last)?;
+        let Ok(book) = Box::new(alloc, parts) else {
+            return Err(NoMemory);
+        };
+        Ok(Order { book })
     }
 
     /// The bodies that it was made with.
@@ -137,6 +160,18 @@ impl<'s> Order<'s> {
         ensures { IsOrderHistory self.now.base self.now.history }
     {
         let _last = self.book.last;
+    }
+
+    /// There are at most 65,536 bodies. The entries of the history, and the stamps that were begun,
+    /// are fewer than 2^63.
+    pub fn know_size(&self)
+        ensures bodies { length self.now.base.bodies ≤ max_transactions }
+        ensures entries { length self.now.history < 2 ^ 63 }
+        ensures stamps { last_stamp self.now.base.last self.now.history
+            < self.now.base.last + 2 ^ 63 }
+    {
+        let _entries = self.book.history.len();
+        let _begun = logging::count_begun(&self.book);
     }
 
     /// Begins a transaction of the body of this number, with the stamp after the last one.

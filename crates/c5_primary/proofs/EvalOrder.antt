@@ -1,5 +1,6 @@
 -- The writes of a body ascend by name.
-use Rattle.std.proofs.Common.{◌≡◌, ◌&&◌, T, Bool, true, false, List, [], ◌∷◌, Option, Some, None, map, refl, Ordering, Less, Equal, Greater}
+use Rattle.std.proofs.Common.{◌≡◌, ◌&&◌, T, Bool, true, false, List, [], ◌∷◌, Option, Some, None}
+use Rattle.std.proofs.Common.{map, refl, Ordering, Less, Equal, Greater}
 use Rattle.std.specs.FinMap.{entries, entries_sorted, get, is_sorted}
 use Rattle.std.specs.FinMap.Entries.{below_all}
 use Rattle.std.specs.Ordering.{is_lt}
@@ -28,11 +29,15 @@ less Less h = refl
 less Equal h = absurd h
 less Greater h = absurd h
 
-below_first : (state : State) (name : RowName) (es : List (RowName × Unit {0})) → T (below_all row_name_cmp name es) → IsBelowFirst name (writes_at state es)
+below_first : (state : State) (name : RowName) (es : List (RowName × Unit {0}))
+    → T (below_all row_name_cmp name es) → IsBelowFirst name (writes_at state es)
 below_first state name [] below = tt
-below_first state name (e ∷ es) below = less (row_name_cmp name e.0) (first (is_lt (row_name_cmp name e.0)) (below_all row_name_cmp name es) below)
+below_first state name (e ∷ es) below =
+    less (row_name_cmp name e.0)
+    (first (is_lt (row_name_cmp name e.0)) (below_all row_name_cmp name es) below)
 
-entries_ascend : (state : State) (es : List (RowName × Unit {0})) → T (is_sorted row_name_cmp es) → IsAscending (writes_at state es)
+entries_ascend : (state : State) (es : List (RowName × Unit {0})) → T (is_sorted row_name_cmp es)
+    → IsAscending (writes_at state es)
 entries_ascend state [] up = tt
 entries_ascend state (e ∷ es) up = (
   below_first state e.0 es (first (below_all row_name_cmp e.0 es) (is_sorted row_name_cmp es) up),

@@ -8,3 +8,6 @@ pub mod LatestLaws
 pub mod LogLength
 pub mod SerialLaws
 pub mod TurnLemmas
+pub mod Shuffles
+pub mod FinishLemmas
+pub mod JobLemmas

@@ -6,3 +6,5 @@ pub mod Parts
 pub mod Slots
 pub mod Running
 pub mod Jobs
+pub mod OpenStamps
+pub mod Finishing

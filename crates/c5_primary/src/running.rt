@@ -110,8 +110,8 @@ impl<H: Hold> ReadRows for Runner<'_, '_, H> {
     }
 }
 
-// The writes that the body of the open transaction gives.
-fn evaluated<H: Hold>(
+/// The writes that the body of the open transaction gives.
+pub fn evaluated<H: Hold>(
     runner: &mut Runner<'_, '_, H>,
     alloc: Global,
     body: &Body,
@@ -129,8 +129,8 @@ fn evaluated<H: Hold>(
     }
 }
 
-// Begins a transaction of the body of this number.
-fn begin<H: Hold>(runner: &mut Runner<'_, '_, H>, script: u32) -> Result<(), Stop>
+/// Begins a transaction of the body of this number.
+pub fn begin<H: Hold>(runner: &mut Runner<'_, '_, H>, script: u32) -> Result<(), Stop>
     requires known { script < length runner.old.session.base.bodies }
     ensures caller { IsSameCaller runner.old.session runner.new.session }
     ensures unread { OnOk result (answers_of runner.new.session ≡ []) }
@@ -192,7 +192,7 @@ fn cancel<H: Hold>(runner: &mut Runner<'_, '_, H>)
     }
 }
 
-// Runs the body of this number, unless it is left to the end of the run.
+/// Runs the body of this number, unless it is left to the end of the run.
 pub fn run_body<H: Hold>(
     runner: &mut Runner<'_, '_, H>,
     alloc: Global,

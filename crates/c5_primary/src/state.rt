@@ -40,8 +40,26 @@ pub struct SessionState {
     pub begun: Option<Opened>,
 }
 
+/// What the reads of the one open transaction of an order book leave as it is. No value of it is
+/// made.
+pub struct HeldBase {
+    /// The reference that the book is behind.
+    pub reference: u64,
+    /// What the book was made with.
+    pub base: OrderBase,
+    pub stamp: u64,
+    /// The begins of the open transactions.
+    pub opens: LinkedList<Entry>,
+    /// The stamp that was begun last.
+    pub last: u64,
+    /// How many entries the history had at first.
+    pub before: u64,
+    /// These entries.
+    pub first: LinkedList<Entry>,
+}
+
 /// Why a call on a session did nothing.
-#[derive(Clone, Copy, Debug, PartialEq, Eq)]
+#[derive(Clone, Copy, PartialEq, Eq)]
 pub enum SessionFault {
     /// The pass of this number has the turn.
     Busy { holder: u64 },

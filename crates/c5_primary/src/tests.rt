@@ -10,7 +10,7 @@ use std::alloc::Global;
 use std::process::Abort;
 use std::test::Fail;
 
-fn name_of(bytes: &[u8]) -> Result<RowName, Fail>
+pub fn name_of(bytes: &[u8]) -> Result<RowName, Fail>
     ensures { IfOk result (λ name. name.table ≡ 0) }
 {
     Ok(RowName {
@@ -19,7 +19,7 @@ fn name_of(bytes: &[u8]) -> Result<RowName, Fail>
     })
 }
 
-fn one_table(name: &[u8], types: &[CellType]) -> Result<Schema, Fail>
+pub fn one_table(name: &[u8], types: &[CellType]) -> Result<Schema, Fail>
     ensures { IfOk result
         (λ tables. MatchOption (slice_get tables 0) ⊥ (λ table. table.columns ≡ types.now)) }
 {
@@ -30,7 +30,7 @@ fn one_table(name: &[u8], types: &[CellType]) -> Result<Schema, Fail>
 }
 
 // The body of one statement.
-fn one(alloc: Global, statement: Statement) -> Result<Body, Fail>
+pub fn one(alloc: Global, statement: Statement) -> Result<Body, Fail>
     ensures { IfOk result (λ body. body ≡ statement ∷ []) }
 {
     let mut body = Body::new(alloc);

@@ -59,8 +59,8 @@ fn work<'a, 's, G: Gate>(
     Ok(session)
 }
 
-// A session for each pass.
-fn jobs_of<'a, 's>(
+/// A session for each pass.
+pub fn jobs_of<'a, 's>(
     alloc: Global,
     slot: &'a TurnSlot<Order<'s>>,
     passes: Vec<Pass<Order<'s>>>,
@@ -82,8 +82,8 @@ fn jobs_of<'a, 's>(
     Ok(jobs)
 }
 
-// Runs the jobs, each in a thread of its own.
-fn run_all<'a, 's, G: Gate, R: Threads + Sync>(
+/// Runs the jobs, each in a thread of its own.
+pub fn run_all<'a, 's, G: Gate, R: Threads + Sync>(
     rt: &R,
     alloc: Global,
     jobs: Vec<Job<'a, 's>>,

@@ -1,7 +1,11 @@
 -- Each step keeps the rule.
-use Rattle.std.proofs.Common.{◌≡◌, ◌≢◌, ℕ, zero, suc, ◌+◌, ◌<◌, ◌≤◌, ◌==◌, ◌⊎◌, inl, inr, ⊎_elim, Bool, true, false, cond, true≢false, List, [], ◌∷◌, ◌++◌, length, take, drop, get_or, set, refl, sym, ap, subst, ◌∙◌, arith, Option, Some, None, eq-eqb, ne_eqb, take-append-drop}
+use Rattle.std.proofs.Common.{◌≡◌, ◌≢◌, ℕ, zero, suc, ◌+◌, ◌<◌, ◌≤◌, ◌==◌, ◌⊎◌, inl, inr, ⊎_elim}
+use Rattle.std.proofs.Common.{Bool, true, false, cond, true≢false, List, [], ◌∷◌, ◌++◌, length}
+use Rattle.std.proofs.Common.{take, drop, get_or, set, refl, sym, ap, subst, ◌∙◌, arith, Option}
+use Rattle.std.proofs.Common.{Some, None, eq-eqb, ne_eqb, take-append-drop}
 use Rattle.std.specs.Prelude.{All}
-use Rattle.std.proofs.lemmas.List.Elements.{All-nil, All-cons, All-append, All-push, All-weaker}
+use Rattle.std.proofs.lemmas.List.Elements.{All-nil, All-cons, All-head, All-tail, All-append}
+use Rattle.std.proofs.lemmas.List.Elements.{All-push, All-weaker}
 use mathlib.Core.Logic.{dite}
 use mathlib.Core.List.{IsPrefix}
 use mathlib.Core.Option.{some, none, some-injective, some-ne-none}
@@ -9,49 +13,65 @@ use mathlib.Core.Option as maybe
 use native.Mathlib.Decide.{ℕ_discrete}
 use lib.ListN.{get_elem?}
 use prog.Atomic.{either}
-use Rattle.atomic_table.specs.Table.{State, Me, step, opening, takes, keeps, gives, homes_after, rest, stepped, Final, Seen, Allows, Splits, Joins}
+use Rattle.atomic_table.specs.Table.{State, Me, step, opening, takes, keeps, gives, homes_after}
+use Rattle.atomic_table.specs.Table.{rest, stepped, Final, Seen, Allows, Splits, Joins}
 use Rattle.atomic_table.proofs.Lists.{at_set, set_else, at_longer, at_last}
 use Rattle.turn_slot.specs.declared.known.Known.{Known}
 use Rattle.turn_slot.specs.declared.known.Origin.{Origin}
+use Rattle.turn_slot.specs.declared.known.Part.{Part}
 use Rattle.turn_slot.specs.declared.known.TurnStage.{TurnStage}
 use Rattle.turn_slot.specs.declared.known.TurnStage.TheVariants.{Without, Won, Out, Back}
 use Rattle.turn_slot.specs.Entries.{count_of, IsPassNumber, entries_of, AreOf, AreOthers, IsSeenOf}
+use Rattle.turn_slot.specs.Entries.{longer}
 use Rattle.c5_rows.specs.Numbers.{is_among, numbers_from}
-use Rattle.turn_slot.specs.Views.{has_turn, pass_number, new_view, first_view, spent_view, others_view, single_view, joined_view, looked_view, saw_view, Fits, IsPlaced, IsSlotKept, tried, took, gave, ended}
-use Rattle.turn_slot.proofs.Histories.{not_both, not_true, either_bool, one_number, has_front, has_back, has_part, has_range, range_has, seen_fewer, seen_whole, seen_more, seen_longer, seen_begins, seen_own, seen_all_own}
+use Rattle.turn_slot.specs.Views.{has_turn, pass_number, new_view, first_view, spent_view}
+use Rattle.turn_slot.specs.Views.{others_view, single_view, joined_view, looked_view, saw_view}
+use Rattle.turn_slot.specs.Views.{part_of, IsPartOf, Fits, IsPlaced, IsSlotKept, tried, took, gave}
+use Rattle.turn_slot.specs.Views.{ended, settled}
+use Rattle.turn_slot.proofs.Histories.{not_both, not_true, either_bool, one_number, has_front}
+use Rattle.turn_slot.proofs.Histories.{has_back, has_part, has_range, range_has, seen_fewer}
+use Rattle.turn_slot.proofs.Histories.{seen_whole, seen_more, seen_longer, seen_begins, seen_own}
+use Rattle.turn_slot.proofs.Histories.{seen_all_own, others_fewer}
 
 -- ---- views in a list
 
-there : {A : Type 0} (l : List A) (i : ℕ) (v w : A) → get_elem? l i ≡ some v → get_elem? (set l i w) i ≡ some w
+there : {A : Type 0} (l : List A) (i : ℕ) (v w : A) → get_elem? l i ≡ some v
+    → get_elem? (set l i w) i ≡ some w
 there [] i v w e = absurd (some-ne-none v (sym e))
 there (x ∷ xs) zero v w e = refl
 there (x ∷ xs) (suc i) v w e = there xs i v w e
 
 -- what stands in a longer list stood in the list, or is the new element at its end
-snoc : {A : Type 0} (l : List A) (a b : A) (j : ℕ) → get_elem? (l ++ a ∷ []) j ≡ some b → (get_elem? l j ≡ some b) ⊎ ((j ≡ length l) × (a ≡ b))
+snoc : {A : Type 0} (l : List A) (a b : A) (j : ℕ) → get_elem? (l ++ a ∷ []) j ≡ some b
+    → (get_elem? l j ≡ some b) ⊎ ((j ≡ length l) × (a ≡ b))
 snoc [] a b zero e = inr (refl, some-injective a b e)
 snoc [] a b (suc j) e = absurd (some-ne-none b (sym e))
 snoc (x ∷ xs) a b zero e = inl e
-snoc (x ∷ xs) a b (suc j) e = ⊎_elim (λ t. inl t) (λ (t : (j ≡ length xs) × (a ≡ b)). inr (ap suc t.0, t.1)) (snoc xs a b j e)
+snoc (x ∷ xs) a b (suc j) e = ⊎_elim (λ t. inl t)
+    (λ (t : (j ≡ length xs) × (a ≡ b)). inr (ap suc t.0, t.1)) (snoc xs a b j e)
 
 inside : {A : Type 0} (l : List A) (j : ℕ) (b : A) → get_elem? l j ≡ some b → j < length l
 inside [] j b e = absurd (some-ne-none b (sym e))
 inside (x ∷ xs) zero b e = omega arith
 inside (x ∷ xs) (suc j) b e = let r = inside xs j b e in omega arith
 
-one_view : {A : Type 0} (l : List A) (j : ℕ) (v w : A) → get_elem? l j ≡ some v → get_elem? l j ≡ some w → v ≡ w
+one_view : {A : Type 0} (l : List A) (j : ℕ) (v w : A) → get_elem? l j ≡ some v
+    → get_elem? l j ≡ some w → v ≡ w
 one_view l j v w e f = some-injective v w (sym e ∙ f)
 
 -- a number that isn't 0 and comes first is among the numbers
-first_has : (numbers : List ℕ) → pass_number numbers ≢ 0 → is_among (pass_number numbers) numbers ≡ true
+first_has : (numbers : List ℕ) → pass_number numbers ≢ 0
+    → is_among (pass_number numbers) numbers ≡ true
 first_has [] some_number = absurd (some_number refl)
 first_has (n ∷ ns) some_number = rw (eq-eqb n n refl)
 
-pub has_first : (n : ℕ) (numbers : List ℕ) → numbers ≡ n ∷ drop 1 numbers → is_among n numbers ≡ true
+pub has_first : (n : ℕ) (numbers : List ℕ) → numbers ≡ n ∷ drop 1 numbers
+    → is_among n numbers ≡ true
 has_first n [] is = absurd (cc)
 has_first n (m ∷ ns) is = let e : n ≡ m = cc in rw (eq-eqb n m e)
 
-module _ {V B E : Type 0} (base : V → B) (history : V → List E) (caller : E → ℕ) (origin : Origin B) where
+module _ {V B E : Type 0} (base : V → B) (history : V → List E) (caller : E → ℕ)
+    (origin : Origin B) where
   abbrev K : Type 0
   K = Known B E
 
@@ -76,50 +96,99 @@ module _ {V B E : Type 0} (base : V → B) (history : V → List E) (caller : E 
   abbrev not_number : K → ℕ → Type 0
   not_number v n = has_in v n ≡ false
 
+  -- ---- the parts of a pass
+
+  no_parts : (log : List E) (numbers : List ℕ) → All (IsPartOf caller log numbers) []
+  no_parts log numbers = All-nil (IsPartOf caller log numbers)
+
+  both_parts : (log : List E) (v w : K) → IsSeenOf caller log v.numbers v.seen
+      → IsSeenOf caller log w.numbers w.seen
+      → All (IsPartOf caller log (v.numbers ++ w.numbers)) (part_of v ∷ part_of w ∷ [])
+  both_parts log v w a b =
+      let P : Part E → Type 0 = IsPartOf caller log (v.numbers ++ w.numbers) in
+      All-cons P (part_of v) (part_of w ∷ []) ((λ n is. has_front n v.numbers w.numbers is), a)
+      (All-cons P (part_of w) [] ((λ n is. has_back n v.numbers w.numbers is), b) (All-nil P))
+
+  -- a pass that has seen the entries of its numbers has seen those of its part
+  seen_part : (log : List E) (numbers : List ℕ) (seen : List E) (p : Part E)
+      → IsSeenOf caller log numbers seen → IsPartOf caller log numbers p
+      → entries_of caller p.numbers seen ≡ entries_of caller p.numbers p.seen
+  seen_part log numbers seen p s is =
+      sym (seen_own caller log p.numbers seen (seen_fewer caller log numbers p.numbers seen is.0 s))
+      ∙ seen_own caller log p.numbers p.seen is.1
+
   -- ---- one view and the words change
 
-  moved : (s : St) (r : Rule s) (id : ℕ) (v w : K) (words : List ℕ) (homes : List (maybe.Option (Option V))) (log : List E) (holder : ℕ) (stage : TurnStage) (who : ℕ)
-      → get_elem? s.views id ≡ some v → w.numbers ≡ v.numbers → words ≡ holder ∷ count_of (length log) ∷ [] → IsPlaced base history stage homes origin.base log
+  moved : (s : St) (r : Rule s) (id : ℕ) (v w : K) (words : List ℕ)
+      (homes : List (maybe.Option (Option V))) (log : List E) (holder : ℕ) (stage : TurnStage)
+      (who : ℕ)
+      → get_elem? s.views id ≡ some v → w.numbers ≡ v.numbers
+      → words ≡ holder ∷ count_of (length log) ∷ []
+      → IsPlaced base history stage homes origin.base log
       → (holder ≡ 0 → stage ≡ Without)
-      → (holder ≢ 0 → ((who ≡ id) × (has_turn w.stage ≡ true)) ⊎ ((r.holder ≢ 0) × (who ≡ r.who) × (has_turn v.stage ≡ false)))
+      → (holder ≢ 0 → ((who ≡ id) × (has_turn w.stage ≡ true))
+      ⊎ ((r.holder ≢ 0) × (who ≡ r.who) × (has_turn v.stage ≡ false)))
       → All (λ e. IsPassNumber origin.passes (caller e)) log
       → Fits caller origin log holder stage who r.owner id w
-      → ((k : ℕ) (u : K) → k ≢ id → get_elem? s.views k ≡ some u → Fits caller origin log holder stage who r.owner k u)
+      → ((k : ℕ) (u : K) → k ≢ id → get_elem? s.views k ≡ some u
+      → Fits caller origin log holder stage who r.owner k u)
       → Rule (record { words = words; homes = homes; views = set s.views id w })
-  moved s r id v w words homes log holder stage who at same_numbers now place free held callers mine others = record {
-    log = log;
-    holder = holder;
-    stage = stage;
-    who = who;
-    owner = r.owner;
-    words = now;
-    place = place;
-    free = free;
-    held = λ busy. ⊎_elim
-        (λ (t : (who ≡ id) × (has_turn w.stage ≡ true)). (w, subst (λ (k : ℕ). get_elem? (set s.views id w) k ≡ some w) (sym t.0) (there s.views id v w at), t.1))
-        (λ (t : (r.holder ≢ 0) × (who ≡ r.who) × (has_turn v.stage ≡ false)). let h = r.held t.0 in
-        let apart : r.who ≢ id = λ e. not_both (has_turn v.stage) (subst (λ (z : K). has_turn z.stage ≡ true) (one_view s.views id h.0 v (subst (λ (k : ℕ). get_elem? s.views k ≡ some h.0) e h.1) at) h.2) t.2 in
-        (h.0, subst (λ (k : ℕ). get_elem? (set s.views id w) k ≡ some h.0) (sym t.1) (set_else s.views id r.who w apart ∙ h.1), h.2))
-        (held busy);
-    each = λ k u e. ⊎_elim
-        (λ (t : (k ≡ id) × (w ≡ u)). subst (λ (z : ℕ × K). Fits caller origin log holder stage who r.owner z.0 z.1) (λ i. (sym t.0 i, t.1 i)) mine)
-        (λ (t : (k ≢ id) × (get_elem? s.views k ≡ some u)). others k u t.0 t.1)
-        (at_set s.views id k w u e);
-    owned = λ n is. let h = r.owned n is in dite (ℕ_discrete (r.owner n) id)
-        (λ e. (
-          w,
-          subst (λ (k : ℕ). get_elem? (set s.views id w) k ≡ some w) (sym e) (there s.views id v w at),
-          subst (λ (l : List ℕ). is_among n l ≡ true) (ap (λ (z : K). z.numbers) (one_view s.views id h.0 v (subst (λ (k : ℕ). get_elem? s.views k ≡ some h.0) e h.1) at) ∙ sym same_numbers) h.2,
-        ))
-        (λ apart. (h.0, set_else s.views id (r.owner n) w apart ∙ h.1, h.2));
-    callers = callers;
-  }
+  moved s r id v w words homes log holder stage who at same_numbers now place free held callers mine
+      others = record {
+        log = log;
+        holder = holder;
+        stage = stage;
+        who = who;
+        owner = r.owner;
+        words = now;
+        place = place;
+        free = free;
+        held = λ busy. ⊎_elim
+            (λ (t : (who ≡ id) × (has_turn w.stage ≡ true)). (
+              w,
+              subst (λ (k : ℕ). get_elem? (set s.views id w) k ≡ some w) (sym t.0)
+                  (there s.views id v w at),
+              t.1,
+            ))
+            (λ (t : (r.holder ≢ 0) × (who ≡ r.who) × (has_turn v.stage ≡ false)). let h = r.held t.0 in
+            let apart : r.who ≢ id =
+            λ e. not_both (has_turn v.stage)
+            (subst (λ (z : K). has_turn z.stage ≡ true)
+            (one_view s.views id h.0 v (subst (λ (k : ℕ). get_elem? s.views k ≡ some h.0) e h.1) at)
+            h.2) t.2 in (
+              h.0,
+              subst (λ (k : ℕ). get_elem? (set s.views id w) k ≡ some h.0) (sym t.1)
+                  (set_else s.views id r.who w apart ∙ h.1),
+              h.2,
+            ))
+            (held busy);
+        each = λ k u e. ⊎_elim
+            (λ (t : (k ≡ id) × (w ≡ u)). subst
+            (λ (z : ℕ × K). Fits caller origin log holder stage who r.owner z.0 z.1)
+            (λ i. (sym t.0 i, t.1 i)) mine)
+            (λ (t : (k ≢ id) × (get_elem? s.views k ≡ some u)). others k u t.0 t.1)
+            (at_set s.views id k w u e);
+        owned = λ n is. let h = r.owned n is in dite (ℕ_discrete (r.owner n) id)
+            (λ e. (
+              w,
+              subst (λ (k : ℕ). get_elem? (set s.views id w) k ≡ some w) (sym e)
+                  (there s.views id v w at),
+              subst (λ (l : List ℕ). is_among n l ≡ true)
+                  (ap (λ (z : K). z.numbers)
+                  (one_view s.views id h.0 v
+                  (subst (λ (k : ℕ). get_elem? s.views k ≡ some h.0) e h.1) at) ∙ sym same_numbers) h.2,
+            ))
+            (λ apart. (h.0, set_else s.views id (r.owner n) w apart ∙ h.1, h.2));
+        callers = callers;
+      }
 
   -- ---- the other seats
 
   -- a seat without the turn fits whatever the turn does
-  still : (log : List E) (holder holder' : ℕ) (stage stage' : TurnStage) (who who' : ℕ) (owner : ℕ → ℕ) (k : ℕ) (u : K) → has_turn u.stage ≡ false
-      → Fits caller origin log holder stage who owner k u → Fits caller origin log holder' stage' who' owner k u
+  still : (log : List E) (holder holder' : ℕ) (stage stage' : TurnStage) (who who' : ℕ)
+      (owner : ℕ → ℕ) (k : ℕ) (u : K) → has_turn u.stage ≡ false
+      → Fits caller origin log holder stage who owner k u
+      → Fits caller origin log holder' stage' who' owner k u
   still log holder holder' stage stage' who who' owner k u idle f = record {
     same_origin = f.same_origin;
     numbers = f.numbers;
@@ -127,11 +196,14 @@ module _ {V B E : Type 0} (base : V → B) (history : V → List E) (caller : E 
     looks = f.looks;
     turn = λ is_among. absurd (not_both (has_turn u.stage) is_among idle);
     seen_all = λ out. absurd (not_both (has_turn u.stage) (ap has_turn out) idle);
+    parts = f.parts;
   }
 
   -- and while the log grows by entries of others
-  beyond : (log more : List E) (holder : ℕ) (stage : TurnStage) (who : ℕ) (owner : ℕ → ℕ) (k : ℕ) (u : K) → has_turn u.stage ≡ false → AreOthers caller u.numbers more
-      → Fits caller origin log holder stage who owner k u → Fits caller origin (log ++ more) holder stage who owner k u
+  beyond : (log more : List E) (holder : ℕ) (stage : TurnStage) (who : ℕ) (owner : ℕ → ℕ) (k : ℕ)
+      (u : K) → has_turn u.stage ≡ false → AreOthers caller u.numbers more
+      → Fits caller origin log holder stage who owner k u
+      → Fits caller origin (log ++ more) holder stage who owner k u
   beyond log more holder stage who owner k u idle foreign f = record {
     same_origin = f.same_origin;
     numbers = f.numbers;
@@ -139,34 +211,58 @@ module _ {V B E : Type 0} (base : V → B) (history : V → List E) (caller : E 
     looks = f.looks;
     turn = λ is_among. absurd (not_both (has_turn u.stage) is_among idle);
     seen_all = λ out. absurd (not_both (has_turn u.stage) (ap has_turn out) idle);
+    parts = All-weaker (IsPartOf caller log u.numbers) (IsPartOf caller (log ++ more) u.numbers)
+        (λ p is. (
+          is.0,
+          seen_more caller log more p.numbers p.seen
+              (others_fewer caller u.numbers p.numbers more is.0 foreign) is.1,
+        )) u.parts f.parts;
   }
 
   -- where the holder word is 0, no seat has the turn
-  idle_free : (s : St) (r : Rule s) (k : ℕ) (u : K) → r.holder ≡ 0 → get_elem? s.views k ≡ some u → has_turn u.stage ≡ false
-  idle_free s r k u zero_word at = not_true (has_turn u.stage) (λ is_among. not_both (has_turn u.stage) is_among (ap has_turn (sym ((r.each k u at).turn is_among).1 ∙ r.free zero_word)))
+  idle_free : (s : St) (r : Rule s) (k : ℕ) (u : K) → r.holder ≡ 0 → get_elem? s.views k ≡ some u
+      → has_turn u.stage ≡ false
+  idle_free s r k u zero_word at =
+      not_true (has_turn u.stage)
+      (λ is_among. not_both (has_turn u.stage) is_among
+      (ap has_turn (sym ((r.each k u at).turn is_among).1 ∙ r.free zero_word)))
 
   -- where a seat has the turn, no other has it
-  idle_other : (s : St) (r : Rule s) (id : ℕ) (v : K) (k : ℕ) (u : K) → get_elem? s.views id ≡ some v → has_turn v.stage ≡ true → k ≢ id → get_elem? s.views k ≡ some u → has_turn u.stage ≡ false
-  idle_other s r id v k u at turn apart there = not_true (has_turn u.stage) (λ is_among. apart (((r.each k u there).turn is_among).0 ∙ sym ((r.each id v at).turn turn).0))
+  idle_other : (s : St) (r : Rule s) (id : ℕ) (v : K) (k : ℕ) (u : K)
+      → get_elem? s.views id ≡ some v → has_turn v.stage ≡ true → k ≢ id
+      → get_elem? s.views k ≡ some u → has_turn u.stage ≡ false
+  idle_other s r id v k u at turn apart there =
+      not_true (has_turn u.stage)
+      (λ is_among. apart
+      (((r.each k u there).turn is_among).0 ∙ sym ((r.each id v at).turn turn).0))
 
   -- ---- the exchange of the holder word
 
   -- the number in the holder word is that of another seat
-  held_by_other : (s : St) (r : Rule s) (id : ℕ) (v : K) → get_elem? s.views id ≡ some v → has_turn v.stage ≡ false → r.holder ≢ 0 → IsPassNumber origin.passes r.holder × (is_among r.holder v.numbers ≡ false)
+  held_by_other : (s : St) (r : Rule s) (id : ℕ) (v : K) → get_elem? s.views id ≡ some v
+      → has_turn v.stage ≡ false → r.holder ≢ 0 → IsPassNumber origin.passes r.holder
+      × (is_among r.holder v.numbers ≡ false)
   held_by_other s r id v at idle busy =
       let h = r.held busy in
       let f = r.each r.who h.0 h.1 in
       let t = f.turn h.2 in
-      let among : is_among r.holder h.0.numbers ≡ true = subst (λ (n : ℕ). is_among n h.0.numbers ≡ true) t.2 (first_has h.0.numbers (λ e. busy (sym t.2 ∙ e))) in
+      let among : is_among r.holder h.0.numbers ≡ true =
+      subst (λ (n : ℕ). is_among n h.0.numbers ≡ true) t.2
+      (first_has h.0.numbers (λ e. busy (sym t.2 ∙ e))) in
       let known = f.numbers r.holder among in (
         known.0,
         not_true (is_among r.holder v.numbers)
             (λ is. let same : r.who ≡ id = sym known.1 ∙ ((r.each id v at).numbers r.holder is).1 in
-            not_both (has_turn v.stage) (subst (λ (z : K). has_turn z.stage ≡ true) (one_view s.views id h.0 v (subst (λ (k : ℕ). get_elem? s.views k ≡ some h.0) same h.1) at) h.2) idle),
+            not_both (has_turn v.stage)
+            (subst (λ (z : K). has_turn z.stage ≡ true)
+            (one_view s.views id h.0 v
+            (subst (λ (k : ℕ). get_elem? s.views k ≡ some h.0) same h.1) at) h.2) idle),
       )
 
-  pub tries : (slots id : ℕ) (me : M) (number : ℕ) → me.0.stage ≡ Without → me.0.numbers ≡ number ∷ drop 1 me.0.numbers
-      → Allows Rule slots id me 0 (λ n. either (n == 0) number n) (tried (step slots 0 0 number none) me)
+  pub tries : (slots id : ℕ) (me : M) (number : ℕ) → me.0.stage ≡ Without
+      → me.0.numbers ≡ number ∷ drop 1 me.0.numbers
+      → Allows Rule slots id me 0 (λ n. either (n == 0) number n)
+      (tried (step slots 0 0 number none) me)
   tries slots id me number idle mine s r _ at _ =
       let v : K = me.0 in
       let n : ℕ = get_or s.words 0 0 in
@@ -180,8 +276,10 @@ module _ {V B E : Type 0} (base : V → B) (history : V → List E) (caller : E 
         keeps,
         tt,
         subst (λ b. Rule (stepped s 0 (either b number n) id me.1 w keeps)) (sym (eq-eqb n 0 hit))
-            (moved s r id v w (set s.words 0 number) s.homes r.log number Won id at refl (ap (λ (l : List ℕ). set l 0 number) r.words)
-            (subst (λ (st : TurnStage). IsPlaced base history st s.homes origin.base r.log) (r.free zero_word) r.place)
+            (moved s r id v w (set s.words 0 number) s.homes r.log number Won id at refl
+            (ap (λ (l : List ℕ). set l 0 number) r.words)
+            (subst (λ (st : TurnStage). IsPlaced base history st s.homes origin.base r.log)
+            (r.free zero_word) r.place)
             (λ e. absurd (omega (arith, ours.0.0))) (λ _. inl (refl, refl)) r.callers
             (record {
               same_origin = f.same_origin;
@@ -190,17 +288,24 @@ module _ {V B E : Type 0} (base : V → B) (history : V → List E) (caller : E 
               looks = All-push (λ k. k ≤ origin.passes) v.looks 0 f.looks (omega arith);
               turn = λ _. (refl, refl, ap pass_number mine);
               seen_all = λ e. absurd (cc);
+              parts = no_parts r.log v.numbers;
             })
-            (λ k u apart there. still r.log r.holder number r.stage Won r.who id r.owner k u (idle_free s r k u zero_word there) (r.each k u there))),
+            (λ k u apart there. still r.log r.holder number r.stage Won r.who id r.owner k u
+            (idle_free s r k u zero_word there) (r.each k u there))),
         ((λ _. refl), λ miss. absurd (miss hit)),
       ))
-      (λ miss. let w : K = looked_view v n Without in let busy : r.holder ≢ 0 = λ e. miss (n_is ∙ e) in let other = held_by_other s r id v at idle' busy in
-      let number_n : IsPassNumber origin.passes n = subst (IsPassNumber origin.passes) (sym n_is) other.0 in (
+      (λ miss. let w : K = looked_view v n Without in
+      let busy : r.holder ≢ 0 = λ e. miss (n_is ∙ e) in
+      let other = held_by_other s r id v at idle' busy in
+      let number_n : IsPassNumber origin.passes n =
+      subst (IsPassNumber origin.passes) (sym n_is) other.0 in (
         w,
         keeps,
         tt,
         subst (λ b. Rule (stepped s 0 (either b number n) id me.1 w keeps)) (sym (ne_eqb n 0 miss))
-            (moved s r id v w (set s.words 0 n) s.homes r.log r.holder r.stage r.who at refl (ap (λ (l : List ℕ). set l 0 n) r.words ∙ ap (λ (k : ℕ). k ∷ count_of (length r.log) ∷ []) n_is)
+            (moved s r id v w (set s.words 0 n) s.homes r.log r.holder r.stage r.who at refl
+            (ap (λ (l : List ℕ). set l 0 n) r.words ∙ ap
+            (λ (k : ℕ). k ∷ count_of (length r.log) ∷ []) n_is)
             r.place r.free (λ _. inr (busy, refl, idle')) r.callers
             (record {
               same_origin = f.same_origin;
@@ -209,6 +314,7 @@ module _ {V B E : Type 0} (base : V → B) (history : V → List E) (caller : E 
               looks = All-push (λ k. k ≤ origin.passes) v.looks n f.looks number_n.1;
               turn = λ e. absurd (true≢false (sym e));
               seen_all = λ e. absurd (cc);
+              parts = no_parts r.log v.numbers;
             })
             (λ k u apart there. r.each k u there)),
         (
@@ -216,50 +322,62 @@ module _ {V B E : Type 0} (base : V → B) (history : V → List E) (caller : E 
           (λ _. (
             refl,
             subst (λ (k : ℕ). is_among k v.numbers ≡ false) (sym n_is) other.1,
-            (λ o is. subst (λ (z : Origin B). IsPassNumber z.passes n) (sym (f.same_origin o is)) number_n),
+            (λ o is. subst (λ (z : Origin B). IsPassNumber z.passes n)
+                (sym (f.same_origin o is)) number_n),
           )),
         ),
       ))
 
   -- ---- the load of the count word, at which the slot is taken
 
-  pub takes_slot : (slots id : ℕ) (me : M) → me.0.stage ≡ Won → Allows Rule slots id me 1 (λ n. n) (took base history caller (step slots 1 0 0 none) me)
+  pub takes_slot : (slots id : ℕ) (me : M) → me.0.stage ≡ Won
+      → Allows Rule slots id me 1 (λ n. n) (took base history caller (step slots 1 0 0 none) me)
   takes_slot slots id me won s r _ at _ =
       let v : K = me.0 in
       let f = r.each id v at in
       let is_among : has_turn v.stage ≡ true = ap has_turn won in
       let t = f.turn is_among in
-      let l = subst (λ (st : TurnStage). IsPlaced base history st s.homes origin.base r.log) (t.1 ∙ won) r.place in
+      let l = subst (λ (st : TurnStage). IsPlaced base history st s.homes origin.base r.log)
+      (t.1 ∙ won) r.place in
       let x : V = l.0 in
       let w : K = saw_view v (history x) Out in (
         w,
         takes 0 (Some x),
         ap (λ (hs : List (maybe.Option (Option V))). get_elem? hs 0) l.1,
-        moved s r id v w (set s.words 1 (get_or s.words 1 0)) (set s.homes 0 none) r.log r.holder Out r.who at refl
-            (ap (λ (ws : List ℕ). set ws 1 (get_or ws 1 0)) r.words) (ap (λ (hs : List (maybe.Option (Option V))). set hs 0 none) l.1)
-            (λ e. let none_has : Won ≡ Without = sym won ∙ (sym t.1 ∙ r.free e) in absurd (cc)) (λ _. inl (sym t.0, refl)) r.callers
+        moved s r id v w (set s.words 1 (get_or s.words 1 0))
+            (set s.homes 0 none) r.log r.holder Out r.who at refl
+            (ap (λ (ws : List ℕ). set ws 1 (get_or ws 1 0)) r.words)
+            (ap (λ (hs : List (maybe.Option (Option V))). set hs 0 none) l.1)
+            (λ e. let none_has : Won ≡ Without = sym won ∙ (sym t.1 ∙ r.free e) in absurd (cc))
+            (λ _. inl (sym t.0, refl)) r.callers
             (record {
               same_origin = f.same_origin;
               numbers = f.numbers;
-              seen = subst (λ (xs : List E). IsSeenOf caller r.log v.numbers xs) (sym l.3) (seen_whole caller r.log v.numbers);
+              seen = subst (λ (xs : List E). IsSeenOf caller r.log v.numbers xs) (sym l.3)
+                  (seen_whole caller r.log v.numbers);
               looks = f.looks;
               turn = λ _. (t.0, refl, t.2);
               seen_all = λ _. l.3;
+              parts = no_parts r.log v.numbers;
             })
-            (λ k u apart there. still r.log r.holder r.holder r.stage Out r.who r.who r.owner k u (idle_other s r id v k u at is_among apart there) (r.each k u there)),
+            (λ k u apart there. still r.log r.holder r.holder r.stage Out r.who r.who r.owner k u
+            (idle_other s r id v k u at is_among apart there) (r.each k u there)),
         (
           x,
           refl,
           subst (λ (xs : List E). IsSeenOf caller xs v.numbers v.seen) (sym l.3) f.seen,
           (λ o is. l.2 ∙ sym (ap (λ (z : Origin B). z.base) (f.same_origin o is))),
-          ap (λ (ws : List ℕ). get_or ws 1 0) r.words ∙ ap (λ (xs : List E). count_of (length xs)) (sym l.3),
+          ap (λ (ws : List ℕ). get_or ws 1 0) r.words ∙ ap (λ (xs : List E). count_of (length xs))
+              (sym l.3),
         ),
       )
 
   -- ---- the store of the count word, at which the slot is given back
 
-  pub gives_slot : (slots id : ℕ) (me : M) (x : V) (n : ℕ) → me.0.stage ≡ Out → me.1 ≡ (0, Some x) ∷ [] → base x ≡ origin.base
-      → (more : List E) × (history x ≡ me.0.seen ++ more) × AreOf caller me.0.numbers more → n ≡ count_of (length (history x))
+  pub gives_slot : (slots id : ℕ) (me : M) (x : V) (n : ℕ) → me.0.stage ≡ Out
+      → me.1 ≡ (0, Some x) ∷ [] → base x ≡ origin.base
+      → (more : List E) × (history x ≡ me.0.seen ++ more) × AreOf caller me.0.numbers more
+      → n ≡ count_of (length (history x))
       → Allows Rule slots id me 1 (λ _. n) (λ _. gave history (step slots 1 n 0 none) me n)
   gives_slot slots id me x n out carried same_base grown n_is s r _ at _ =
       let v : K = me.0 in
@@ -267,18 +385,28 @@ module _ {V B E : Type 0} (base : V → B) (history : V → List E) (caller : E 
       let is_among : has_turn v.stage ≡ true = ap has_turn out in
       let t = f.turn is_among in
       let more : List E = grown.0 in
-      let is : r.log ++ more ≡ history x = ap (λ (l : List E). l ++ more) (sym (f.seen_all out)) ∙ sym grown.1 in
-      let hole = subst (λ (st : TurnStage). IsPlaced base history st s.homes origin.base r.log) (t.1 ∙ out) r.place in
-      let lies : homes_after s.homes me.1 gives ≡ some (Some x) ∷ [] = ap (λ (c : List (ℕ × Option V)). homes_after s.homes c gives) carried ∙ ap (λ (hs : List (maybe.Option (Option V))). set hs 0 (some (Some x))) hole in
+      let is : r.log ++ more ≡ history x =
+      ap (λ (l : List E). l ++ more) (sym (f.seen_all out)) ∙ sym grown.1 in
+      let hole = subst (λ (st : TurnStage). IsPlaced base history st s.homes origin.base r.log)
+      (t.1 ∙ out) r.place in
+      let lies : homes_after s.homes me.1 gives ≡ some (Some x) ∷ [] =
+      ap (λ (c : List (ℕ × Option V)). homes_after s.homes c gives) carried ∙ ap
+      (λ (hs : List (maybe.Option (Option V))). set hs 0 (some (Some x))) hole in
       let w : K = saw_view v (history x) Back in
-      let known : AllNumbers (history x) = subst AllNumbers is (All-append (λ e. IsPassNumber origin.passes (caller e)) r.log more r.callers
-      (All-weaker (λ e. has_number v (caller e)) (λ e. IsPassNumber origin.passes (caller e)) (λ e here. (f.numbers (caller e) here).0) more grown.2)) in (
+      let known : AllNumbers (history x) =
+      subst AllNumbers is
+      (All-append (λ e. IsPassNumber origin.passes (caller e)) r.log more r.callers
+      (All-weaker (λ e. has_number v (caller e)) (λ e. IsPassNumber origin.passes (caller e))
+      (λ e here. (f.numbers (caller e) here).0) more grown.2)) in (
         w,
         gives,
         tt,
-        moved s r id v w (set s.words 1 n) (homes_after s.homes me.1 gives) (history x) r.holder Back r.who at refl
-            (ap (λ (ws : List ℕ). set ws 1 n) r.words ∙ ap (λ (k : ℕ). r.holder ∷ k ∷ []) n_is) (x, lies, same_base, refl)
-            (λ e. let none_has : Out ≡ Without = sym out ∙ (sym t.1 ∙ r.free e) in absurd (cc)) (λ _. inl (sym t.0, refl)) known
+        moved s r id v w (set s.words 1 n) (homes_after s.homes me.1 gives)
+            (history x) r.holder Back r.who at refl
+            (ap (λ (ws : List ℕ). set ws 1 n) r.words ∙ ap (λ (k : ℕ). r.holder ∷ k ∷ []) n_is)
+            (x, lies, same_base, refl)
+            (λ e. let none_has : Out ≡ Without = sym out ∙ (sym t.1 ∙ r.free e) in absurd (cc))
+            (λ _. inl (sym t.0, refl)) known
             (record {
               same_origin = f.same_origin;
               numbers = f.numbers;
@@ -286,19 +414,28 @@ module _ {V B E : Type 0} (base : V → B) (history : V → List E) (caller : E 
               looks = f.looks;
               turn = λ _. (t.0, refl, t.2);
               seen_all = λ _. refl;
+              parts = no_parts (history x) v.numbers;
             })
-            (λ k u apart there. let idle = idle_other s r id v k u at is_among apart there in let g = r.each k u there in
-            let foreign : AreOthers caller u.numbers more = All-weaker (λ e. has_number v (caller e)) (λ e. not_number u (caller e))
-            (λ e here. not_true (has_in u (caller e)) (λ theirs. apart (sym (g.numbers (caller e) theirs).1 ∙ (f.numbers (caller e) here).1))) more grown.2 in
+            (λ k u apart there. let idle = idle_other s r id v k u at is_among apart there in
+            let g = r.each k u there in
+            let foreign : AreOthers caller u.numbers more =
+            All-weaker (λ e. has_number v (caller e)) (λ e. not_number u (caller e))
+            (λ e here. not_true (has_in u (caller e))
+            (λ theirs. apart
+            (sym (g.numbers (caller e) theirs).1 ∙ (f.numbers (caller e) here).1))) more grown.2
+            in
             subst (λ (l : List E). Fits caller origin l r.holder Back r.who r.owner k u) is
-            (beyond r.log more r.holder Back r.who r.owner k u idle foreign (still r.log r.holder r.holder r.stage Back r.who r.who r.owner k u idle g))),
-        λ y carried'. let same : ◌≡◌ {A = List (ℕ × Option V)} ((0, Some x) ∷ []) ((0, Some y) ∷ []) = sym carried ∙ carried' in let x_is : x ≡ y = cc in
+            (beyond r.log more r.holder Back r.who r.owner k u idle foreign
+            (still r.log r.holder r.holder r.stage Back r.who r.who r.owner k u idle g))),
+        λ y carried'. let same : ◌≡◌ {A = List (ℕ × Option V)} ((0, Some x) ∷ [])
+            ((0, Some y) ∷ []) = sym carried ∙ carried' in let x_is : x ≡ y = cc in
             λ i. (saw_view v (history (x_is i)) Back, ap rest carried i),
       )
 
   -- ---- the store of 0 to the holder word
 
-  pub ends_turn : (slots id : ℕ) (me : M) → me.0.stage ≡ Back → Allows Rule slots id me 0 (λ _. 0) (λ _. ended (step slots 0 0 0 none) me 0)
+  pub ends_turn : (slots id : ℕ) (me : M) → me.0.stage ≡ Back
+      → Allows Rule slots id me 0 (λ _. 0) (λ _. ended (step slots 0 0 0 none) me 0)
   ends_turn slots id me back s r _ at _ =
       let v : K = me.0 in
       let f = r.each id v at in
@@ -308,8 +445,10 @@ module _ {V B E : Type 0} (base : V → B) (history : V → List E) (caller : E 
         w,
         keeps,
         tt,
-        moved s r id v w (set s.words 0 0) s.homes r.log 0 Without r.who at refl (ap (λ (ws : List ℕ). set ws 0 0) r.words)
-            (subst (λ (st : TurnStage). IsPlaced base history st s.homes origin.base r.log) (t.1 ∙ back) r.place)
+        moved s r id v w (set s.words 0 0) s.homes r.log 0 Without r.who at refl
+            (ap (λ (ws : List ℕ). set ws 0 0) r.words)
+            (subst (λ (st : TurnStage). IsPlaced base history st s.homes origin.base r.log)
+            (t.1 ∙ back) r.place)
             (λ _. refl) (λ busy. absurd (busy refl)) r.callers
             (record {
               same_origin = f.same_origin;
@@ -318,14 +457,17 @@ module _ {V B E : Type 0} (base : V → B) (history : V → List E) (caller : E 
               looks = f.looks;
               turn = λ e. absurd (true≢false (sym e));
               seen_all = λ e. absurd (cc);
+              parts = no_parts r.log v.numbers;
             })
-            (λ k u apart there. still r.log r.holder 0 r.stage Without r.who r.who r.owner k u (idle_other s r id v k u at is_among apart there) (r.each k u there)),
+            (λ k u apart there. still r.log r.holder 0 r.stage Without r.who r.who r.owner k u
+            (idle_other s r id v k u at is_among apart there) (r.each k u there)),
         refl,
       )
 
   -- ---- a new table, a split, a join and the end
 
-  pub opens : (x : V) → base x ≡ origin.base → history x ≡ [] → Rule (opening (0 ∷ 0 ∷ []) (Some x ∷ []) (first_view origin))
+  pub opens : (x : V) → base x ≡ origin.base → history x ≡ []
+      → Rule (opening (0 ∷ 0 ∷ []) (Some x ∷ []) (first_view origin))
   opens x same_base empty = record {
     log = [];
     holder = 0;
@@ -337,7 +479,11 @@ module _ {V B E : Type 0} (base : V → B) (history : V → List E) (caller : E 
     free = λ _. refl;
     held = λ busy. absurd (busy refl);
     each = at_start;
-    owned = λ n is. (first_view origin, refl, range_has n 1 origin.passes is.0 (let h = is.1 in omega arith));
+    owned = λ n is. (
+      first_view origin,
+      refl,
+      range_has n 1 origin.passes is.0 (let h = is.1 in omega arith),
+    );
     callers = All-nil (λ e. IsPassNumber origin.passes (caller e));
   }
     where
@@ -349,28 +495,38 @@ module _ {V B E : Type 0} (base : V → B) (history : V → List E) (caller : E 
         looks = All-nil (λ n. n ≤ origin.passes);
         turn = λ e. absurd (true≢false (sym e));
         seen_all = λ e. absurd (cc);
+        parts = no_parts [] (numbers_from 1 origin.passes);
       }
 
-      at_start : (seat : ℕ) (v : K) → get_elem? (first_view origin ∷ []) seat ≡ some v → Fits caller origin [] 0 Without 0 (λ _. 0) seat v
-      at_start zero v e = subst (λ (z : K). Fits caller origin [] 0 Without 0 (λ _. 0) 0 z) (some-injective (first_view origin) v e) first_fits
+      at_start : (seat : ℕ) (v : K) → get_elem? (first_view origin ∷ []) seat ≡ some v
+          → Fits caller origin [] 0 Without 0 (λ _. 0) seat v
+      at_start zero v e = subst (λ (z : K). Fits caller origin [] 0 Without 0 (λ _. 0) 0 z)
+          (some-injective (first_view origin) v e) first_fits
       at_start (suc seat) v e = absurd (some-ne-none v (sym e))
 
-  pub opens_with : (x : V) (slots : List (Option V)) → slots ≡ Some x ∷ [] → base x ≡ origin.base → history x ≡ [] → Rule (opening (0 ∷ 0 ∷ []) slots (first_view origin))
-  opens_with x slots is same_base empty = subst (λ (l : List (Option V)). Rule (opening (0 ∷ 0 ∷ []) l (first_view origin))) (sym is) (opens x same_base empty)
+  pub opens_with : (x : V) (slots : List (Option V)) → slots ≡ Some x ∷ [] → base x ≡ origin.base
+      → history x ≡ [] → Rule (opening (0 ∷ 0 ∷ []) slots (first_view origin))
+  opens_with x slots is same_base empty =
+      subst (λ (l : List (Option V)). Rule (opening (0 ∷ 0 ∷ []) l (first_view origin))) (sym is)
+      (opens x same_base empty)
 
   -- the owner of each number where those of one seat go to another
   abbrev passed_on : List ℕ → ℕ → (ℕ → ℕ) → ℕ → ℕ
   passed_on numbers seat owner n = cond (is_among n numbers) seat (owner n)
 
-  passed : (numbers : List ℕ) (seat : ℕ) (owner : ℕ → ℕ) (n : ℕ) → is_among n numbers ≡ true → passed_on numbers seat owner n ≡ seat
+  passed : (numbers : List ℕ) (seat : ℕ) (owner : ℕ → ℕ) (n : ℕ) → is_among n numbers ≡ true
+      → passed_on numbers seat owner n ≡ seat
   passed numbers seat owner n is = rw is
 
-  not_passed : (numbers : List ℕ) (seat : ℕ) (owner : ℕ → ℕ) (n : ℕ) → is_among n numbers ≡ false → passed_on numbers seat owner n ≡ owner n
+  not_passed : (numbers : List ℕ) (seat : ℕ) (owner : ℕ → ℕ) (n : ℕ) → is_among n numbers ≡ false
+      → passed_on numbers seat owner n ≡ owner n
   not_passed numbers seat owner n isnt = rw isnt
 
   -- a seat fits under another owner of each number, where its own numbers stay with it
-  reowned : (log : List E) (holder : ℕ) (stage : TurnStage) (who : ℕ) (owner owner' : ℕ → ℕ) (k : ℕ) (u : K) → ((n : ℕ) → is_among n u.numbers ≡ true → owner n ≡ k → owner' n ≡ k)
-      → Fits caller origin log holder stage who owner k u → Fits caller origin log holder stage who owner' k u
+  reowned : (log : List E) (holder : ℕ) (stage : TurnStage) (who : ℕ) (owner owner' : ℕ → ℕ) (k : ℕ)
+      (u : K) → ((n : ℕ) → is_among n u.numbers ≡ true → owner n ≡ k → owner' n ≡ k)
+      → Fits caller origin log holder stage who owner k u
+      → Fits caller origin log holder stage who owner' k u
   reowned log holder stage who owner owner' k u stay f = record {
     same_origin = f.same_origin;
     numbers = λ n is. let g = f.numbers n is in (g.0, stay n is g.1);
@@ -378,9 +534,11 @@ module _ {V B E : Type 0} (base : V → B) (history : V → List E) (caller : E 
     looks = f.looks;
     turn = f.turn;
     seen_all = f.seen_all;
+    parts = f.parts;
   }
 
-  pub splits : (id : ℕ) (v : K) (n : ℕ) → v.stage ≡ Without → v.numbers ≡ n ∷ drop 1 v.numbers → is_among n (drop 1 v.numbers) ≡ false → Splits Rule id v (others_view v) (single_view v)
+  pub splits : (id : ℕ) (v : K) (n : ℕ) → v.stage ≡ Without → v.numbers ≡ n ∷ drop 1 v.numbers
+      → is_among n (drop 1 v.numbers) ≡ false → Splits Rule id v (others_view v) (single_view v)
   splits id v n idle mine once s r at =
       let f = r.each id v at in
       let idle' : has_turn v.stage ≡ false = ap has_turn idle in
@@ -389,31 +547,52 @@ module _ {V B E : Type 0} (base : V → B) (history : V → List E) (caller : E 
       let new : ℕ = length (set s.views id left) in
       let one : take 1 v.numbers ≡ n ∷ [] = ap (take 1) mine in
       let owner' : ℕ → ℕ = passed_on (take 1 v.numbers) new r.owner in
-      let sub_one : (m : ℕ) → is_among m (take 1 v.numbers) ≡ true → is_among m v.numbers ≡ true = λ m is. subst (λ (l : List ℕ). is_among m l ≡ true) (take-append-drop 1 v.numbers) (has_front m (take 1 v.numbers) (drop 1 v.numbers) is) in
-      let sub_rest : (m : ℕ) → is_among m (drop 1 v.numbers) ≡ true → is_among m v.numbers ≡ true = λ m is. subst (λ (l : List ℕ). is_among m l ≡ true) (take-append-drop 1 v.numbers) (has_back m (take 1 v.numbers) (drop 1 v.numbers) is) in
-      let is_n : (m : ℕ) → is_among m (take 1 v.numbers) ≡ true → m ≡ n = λ m is. one_number m n (subst (λ (l : List ℕ). is_among m l ≡ true) one is) in
-      let apart_rest : (m : ℕ) → is_among m (drop 1 v.numbers) ≡ true → is_among m (take 1 v.numbers) ≡ false = λ m is. not_true (is_among m (take 1 v.numbers)) (λ h. not_both (is_among n (drop 1 v.numbers)) (subst (λ (k : ℕ). is_among k (drop 1 v.numbers) ≡ true) (is_n m h) is) once) in
+      let sub_one : (m : ℕ) → is_among m (take 1 v.numbers) ≡ true
+      → is_among m v.numbers ≡ true =
+      λ m is. subst (λ (l : List ℕ). is_among m l ≡ true) (take-append-drop 1 v.numbers)
+      (has_front m (take 1 v.numbers) (drop 1 v.numbers) is) in
+      let sub_rest : (m : ℕ) → is_among m (drop 1 v.numbers) ≡ true
+      → is_among m v.numbers ≡ true =
+      λ m is. subst (λ (l : List ℕ). is_among m l ≡ true) (take-append-drop 1 v.numbers)
+      (has_back m (take 1 v.numbers) (drop 1 v.numbers) is) in
+      let is_n : (m : ℕ) → is_among m (take 1 v.numbers) ≡ true
+      → m ≡ n = λ m is. one_number m n (subst (λ (l : List ℕ). is_among m l ≡ true) one is) in
+      let apart_rest : (m : ℕ) → is_among m (drop 1 v.numbers) ≡ true
+      → is_among m (take 1 v.numbers) ≡ false =
+      λ m is. not_true (is_among m (take 1 v.numbers))
+      (λ h. not_both (is_among n (drop 1 v.numbers))
+      (subst (λ (k : ℕ). is_among k (drop 1 v.numbers) ≡ true) (is_n m h) is) once) in
       let left_fits : Fits caller origin r.log r.holder r.stage r.who owner' id left = record {
         same_origin = f.same_origin;
-        numbers = λ m is. let g = f.numbers m (sub_rest m is) in (g.0, not_passed (take 1 v.numbers) new r.owner m (apart_rest m is) ∙ g.1);
+        numbers = λ m is. let g = f.numbers m (sub_rest m is) in
+            (g.0, not_passed (take 1 v.numbers) new r.owner m (apart_rest m is) ∙ g.1);
         seen = seen_fewer caller r.log v.numbers (drop 1 v.numbers) v.seen sub_rest f.seen;
         looks = f.looks;
         turn = λ is_among. absurd (not_both (has_turn v.stage) is_among idle');
         seen_all = λ out. absurd (not_both (has_turn v.stage) (ap has_turn out) idle');
+        parts = no_parts r.log (drop 1 v.numbers);
       } in
       let right_fits : Fits caller origin r.log r.holder r.stage r.who owner' new right = record {
         same_origin = f.same_origin;
-        numbers = λ m is. let g = f.numbers m (sub_one m is) in (g.0, passed (take 1 v.numbers) new r.owner m is);
+        numbers = λ m is. let g = f.numbers m (sub_one m is) in
+            (g.0, passed (take 1 v.numbers) new r.owner m is);
         seen = seen_fewer caller r.log v.numbers (take 1 v.numbers) v.seen sub_one f.seen;
         looks = All-nil (λ k. k ≤ origin.passes);
         turn = λ e. absurd (true≢false (sym e));
         seen_all = λ e. absurd (cc);
+        parts = no_parts r.log (take 1 v.numbers);
       } in
       let vs : List K = set s.views id left in
-      let old : (k : ℕ) (u : K) → get_elem? vs k ≡ some u → Fits caller origin r.log r.holder r.stage r.who owner' k u = λ k u e. ⊎_elim
-      (λ (t : (k ≡ id) × (left ≡ u)). subst (λ (z : ℕ × K). Fits caller origin r.log r.holder r.stage r.who owner' z.0 z.1) (λ i. (sym t.0 i, t.1 i)) left_fits)
-      (λ (t : (k ≢ id) × (get_elem? s.views k ≡ some u)). reowned r.log r.holder r.stage r.who r.owner owner' k u
-      (λ m is own. not_passed (take 1 v.numbers) new r.owner m (not_true (is_among m (take 1 v.numbers)) (λ h. t.0 (sym own ∙ (f.numbers m (sub_one m h)).1))) ∙ own)
+      let old : (k : ℕ) (u : K) → get_elem? vs k ≡ some u
+      → Fits caller origin r.log r.holder r.stage r.who owner' k u = λ k u e. ⊎_elim
+      (λ (t : (k ≡ id) × (left ≡ u)). subst
+      (λ (z : ℕ × K). Fits caller origin r.log r.holder r.stage r.who owner' z.0 z.1)
+      (λ i. (sym t.0 i, t.1 i)) left_fits)
+      (λ (t : (k ≢ id) × (get_elem? s.views k ≡ some u)). reowned r.log r.holder r.stage r.who
+      r.owner owner' k u
+      (λ m is own. not_passed (take 1 v.numbers) new r.owner m
+      (not_true (is_among m (take 1 v.numbers))
+      (λ h. t.0 (sym own ∙ (f.numbers m (sub_one m h)).1))) ∙ own)
       (r.each k u t.1))
       (at_set s.views id k left u e) in
       record {
@@ -426,28 +605,48 @@ module _ {V B E : Type 0} (base : V → B) (history : V → List E) (caller : E 
         place = r.place;
         free = r.free;
         held = λ busy. let h = r.held busy in
-            let apart : r.who ≢ id = λ e. not_both (has_turn v.stage) (subst (λ (z : K). has_turn z.stage ≡ true) (one_view s.views id h.0 v (subst (λ (k : ℕ). get_elem? s.views k ≡ some h.0) e h.1) at) h.2) idle' in
-            (h.0, at_longer vs (right ∷ []) r.who h.0 (set_else s.views id r.who left apart ∙ h.1), h.2);
+            let apart : r.who ≢ id =
+            λ e. not_both (has_turn v.stage)
+            (subst (λ (z : K). has_turn z.stage ≡ true)
+            (one_view s.views id h.0 v
+            (subst (λ (k : ℕ). get_elem? s.views k ≡ some h.0) e h.1) at) h.2) idle' in (
+              h.0,
+              at_longer vs (right ∷ []) r.who h.0 (set_else s.views id r.who left apart ∙ h.1),
+              h.2,
+            );
         each = λ k u e. ⊎_elim (old k u)
-            (λ (t : (k ≡ new) × (right ≡ u)). subst (λ (z : ℕ × K). Fits caller origin r.log r.holder r.stage r.who owner' z.0 z.1) (λ i. (sym t.0 i, t.1 i)) right_fits)
+            (λ (t : (k ≡ new) × (right ≡ u)). subst
+            (λ (z : ℕ × K). Fits caller origin r.log r.holder r.stage r.who owner' z.0 z.1)
+            (λ i. (sym t.0 i, t.1 i)) right_fits)
             (snoc vs right u k e);
         owned = λ m is. let h = r.owned m is in ⊎_elim
             (λ (own : is_among m (take 1 v.numbers) ≡ true). (
               right,
-              subst (λ (k : ℕ). get_elem? (vs ++ right ∷ []) k ≡ some right) (sym (passed (take 1 v.numbers) new r.owner m own)) (at_last vs right new refl),
+              subst (λ (k : ℕ). get_elem? (vs ++ right ∷ []) k ≡ some right)
+                  (sym (passed (take 1 v.numbers) new r.owner m own)) (at_last vs right new refl),
               own,
             ))
-            (λ (other : is_among m (take 1 v.numbers) ≡ false). let same : owner' m ≡ r.owner m = not_passed (take 1 v.numbers) new r.owner m other in
+            (λ (other : is_among m (take 1 v.numbers) ≡ false). let same : owner' m
+            ≡ r.owner m = not_passed (take 1 v.numbers) new r.owner m other in
             dite (ℕ_discrete (r.owner m) id)
-            (λ e. let v_is : h.0 ≡ v = one_view s.views id h.0 v (subst (λ (k : ℕ). get_elem? s.views k ≡ some h.0) e h.1) at in
-            let of_v : is_among m (take 1 v.numbers ++ drop 1 v.numbers) ≡ true = subst (λ (l : List ℕ). is_among m l ≡ true) (ap (λ (z : K). z.numbers) v_is ∙ sym (take-append-drop 1 v.numbers)) h.2 in (
+            (λ e. let v_is : h.0
+            ≡ v = one_view s.views id h.0 v
+            (subst (λ (k : ℕ). get_elem? s.views k ≡ some h.0) e h.1) at in
+            let of_v : is_among m (take 1 v.numbers ++ drop 1 v.numbers) ≡ true =
+            subst (λ (l : List ℕ). is_among m l ≡ true)
+            (ap (λ (z : K). z.numbers) v_is ∙ sym (take-append-drop 1 v.numbers)) h.2 in (
               left,
-              subst (λ (k : ℕ). get_elem? (vs ++ right ∷ []) k ≡ some left) (sym (same ∙ e)) (at_longer vs (right ∷ []) id left (there s.views id v left at)),
-              ⊎_elim (λ (h : is_among m (take 1 v.numbers) ≡ true). absurd (not_both (is_among m (take 1 v.numbers)) h other)) (λ rest. rest) (has_part m (take 1 v.numbers) (drop 1 v.numbers) of_v),
+              subst (λ (k : ℕ). get_elem? (vs ++ right ∷ []) k ≡ some left) (sym (same ∙ e))
+                  (at_longer vs (right ∷ []) id left (there s.views id v left at)),
+              ⊎_elim (λ (h : is_among m (take 1 v.numbers) ≡ true). absurd
+                  (not_both (is_among m (take 1 v.numbers)) h other)) (λ rest. rest)
+                  (has_part m (take 1 v.numbers) (drop 1 v.numbers) of_v),
             ))
             (λ apart. (
               h.0,
-              subst (λ (k : ℕ). get_elem? (vs ++ right ∷ []) k ≡ some h.0) (sym same) (at_longer vs (right ∷ []) (r.owner m) h.0 (set_else s.views id (r.owner m) left apart ∙ h.1)),
+              subst (λ (k : ℕ). get_elem? (vs ++ right ∷ []) k ≡ some h.0) (sym same)
+                  (at_longer vs (right ∷ []) (r.owner m) h.0
+                  (set_else s.views id (r.owner m) left apart ∙ h.1)),
               h.2,
             )))
             (either_bool (is_among m (take 1 v.numbers)));
@@ -455,7 +654,8 @@ module _ {V B E : Type 0} (base : V → B) (history : V → List E) (caller : E 
       }
 
   -- what a joined seat knows fits
-  spent_fits : (log : List E) (holder : ℕ) (stage : TurnStage) (who : ℕ) (owner : ℕ → ℕ) (k : ℕ) → Fits caller origin log holder stage who owner k spent_view
+  spent_fits : (log : List E) (holder : ℕ) (stage : TurnStage) (who : ℕ) (owner : ℕ → ℕ) (k : ℕ)
+      → Fits caller origin log holder stage who owner k spent_view
   spent_fits log holder stage who owner k = record {
     same_origin = λ o is. absurd (cc (is));
     numbers = λ n is. absurd (true≢false (sym is));
@@ -463,29 +663,35 @@ module _ {V B E : Type 0} (base : V → B) (history : V → List E) (caller : E 
     looks = All-nil (λ n. n ≤ origin.passes);
     turn = λ e. absurd (true≢false (sym e));
     seen_all = λ e. absurd (cc);
+    parts = no_parts log [];
   }
     where
       none_of : (es : List E) → AreOthers caller [] es
       none_of [] = All-nil (λ e. is_among (caller e) [] ≡ false)
       none_of (e ∷ es) = All-cons (λ e. is_among (caller e) [] ≡ false) e es refl (none_of es)
 
-  pub joins : (id : ℕ) (v : K) (other : ℕ) (w : K) → v.stage ≡ Without → w.stage ≡ Without → Joins Rule id v other w (joined_view v w) spent_view
+  pub joins : (id : ℕ) (v : K) (other : ℕ) (w : K) → v.stage ≡ Without → w.stage ≡ Without
+      → Joins Rule id v other w (joined_view v w) spent_view
   joins id v other w idle idle_w s r at apart there_w =
       let both : K = joined_view v w in
       let vs : List K = set s.views id both in
-      let at_w : get_elem? s.views other ≡ some w = sym (set_else s.views id other both apart) ∙ there_w in
+      let at_w : get_elem? s.views other ≡ some w =
+      sym (set_else s.views id other both apart) ∙ there_w in
       let f = r.each id v at in
       let g = r.each other w at_w in
       let idle_v : has_turn v.stage ≡ false = ap has_turn idle in
       let idle_w' : has_turn w.stage ≡ false = ap has_turn idle_w in
       let owner' : ℕ → ℕ = passed_on w.numbers id r.owner in
-      let at_both : get_elem? (set vs other spent_view) id ≡ some both = set_else vs other id spent_view (λ e. apart (sym e)) ∙ there s.views id v both at in
+      let at_both : get_elem? (set vs other spent_view) id ≡ some both =
+      set_else vs other id spent_view (λ e. apart (sym e)) ∙ there s.views id v both at in
       let both_fits : Fits caller origin r.log r.holder r.stage r.who owner' id both = record {
         same_origin = f.same_origin;
         numbers = λ m is. ⊎_elim
-            (λ (mine : is_among m w.numbers ≡ true). ((g.numbers m mine).0, passed w.numbers id r.owner m mine))
+            (λ (mine : is_among m w.numbers ≡ true).
+            ((g.numbers m mine).0, passed w.numbers id r.owner m mine))
             (λ (not_w : is_among m w.numbers ≡ false). ⊎_elim
-            (λ (own : is_among m v.numbers ≡ true). let k = f.numbers m own in (k.0, not_passed w.numbers id r.owner m not_w ∙ k.1))
+            (λ (own : is_among m v.numbers ≡ true). let k = f.numbers m own in
+            (k.0, not_passed w.numbers id r.owner m not_w ∙ k.1))
             (λ (h : is_among m w.numbers ≡ true). absurd (not_both (is_among m w.numbers) h not_w))
             (has_part m v.numbers w.numbers is))
             (either_bool (is_among m w.numbers));
@@ -493,10 +699,19 @@ module _ {V B E : Type 0} (base : V → B) (history : V → List E) (caller : E 
         looks = f.looks;
         turn = λ is_among. absurd (not_both (has_turn v.stage) is_among idle_v);
         seen_all = λ out. absurd (not_both (has_turn v.stage) (ap has_turn out) idle_v);
+        parts = both_parts r.log v w f.seen g.seen;
       } in
-      let stays : (k : ℕ) (u : K) → has_turn u.stage ≡ true → get_elem? s.views k ≡ some u → get_elem? (set vs other spent_view) k ≡ some u = λ k u is_among e.
-      let not_id : k ≢ id = λ z. not_both (has_turn v.stage) (subst (λ (y : K). has_turn y.stage ≡ true) (one_view s.views id u v (subst (λ (j : ℕ). get_elem? s.views j ≡ some u) z e) at) is_among) idle_v in
-      let not_other : k ≢ other = λ z. not_both (has_turn w.stage) (subst (λ (y : K). has_turn y.stage ≡ true) (one_view s.views other u w (subst (λ (j : ℕ). get_elem? s.views j ≡ some u) z e) at_w) is_among) idle_w' in
+      let stays : (k : ℕ) (u : K) → has_turn u.stage ≡ true → get_elem? s.views k ≡ some u
+      → get_elem? (set vs other spent_view) k ≡ some u = λ k u is_among e.
+      let not_id : k ≢ id = λ z. not_both (has_turn v.stage)
+      (subst (λ (y : K). has_turn y.stage ≡ true)
+      (one_view s.views id u v (subst (λ (j : ℕ). get_elem? s.views j ≡ some u) z e) at)
+      is_among) idle_v in
+      let not_other : k ≢ other =
+      λ z. not_both (has_turn w.stage)
+      (subst (λ (y : K). has_turn y.stage ≡ true)
+      (one_view s.views other u w (subst (λ (j : ℕ). get_elem? s.views j ≡ some u) z e) at_w)
+      is_among) idle_w' in
       set_else vs other k spent_view not_other ∙ (set_else s.views id k both not_id ∙ e) in
       record {
         log = r.log;
@@ -509,123 +724,254 @@ module _ {V B E : Type 0} (base : V → B) (history : V → List E) (caller : E 
         free = r.free;
         held = λ busy. let h = r.held busy in (h.0, stays r.who h.0 h.2 h.1, h.2);
         each = λ k u e. ⊎_elim
-            (λ (t : (k ≡ other) × (spent_view ≡ u)). subst (λ (z : ℕ × K). Fits caller origin r.log r.holder r.stage r.who owner' z.0 z.1) (λ i. (sym t.0 i, t.1 i)) (spent_fits r.log r.holder r.stage r.who owner' other))
+            (λ (t : (k ≡ other) × (spent_view ≡ u)). subst
+            (λ (z : ℕ × K). Fits caller origin r.log r.holder r.stage r.who owner' z.0 z.1)
+            (λ i. (sym t.0 i, t.1 i)) (spent_fits r.log r.holder r.stage r.who owner' other))
             (λ (t : (k ≢ other) × (get_elem? vs k ≡ some u)). ⊎_elim
-            (λ (q : (k ≡ id) × (both ≡ u)). subst (λ (z : ℕ × K). Fits caller origin r.log r.holder r.stage r.who owner' z.0 z.1) (λ i. (sym q.0 i, q.1 i)) both_fits)
-            (λ (q : (k ≢ id) × (get_elem? s.views k ≡ some u)). reowned r.log r.holder r.stage r.who r.owner owner' k u
-            (λ m is own. not_passed w.numbers id r.owner m (not_true (is_among m w.numbers) (λ h. t.0 (sym own ∙ (g.numbers m h).1))) ∙ own)
+            (λ (q : (k ≡ id) × (both ≡ u)). subst
+            (λ (z : ℕ × K). Fits caller origin r.log r.holder r.stage r.who owner' z.0 z.1)
+            (λ i. (sym q.0 i, q.1 i)) both_fits)
+            (λ (q : (k ≢ id) × (get_elem? s.views k ≡ some u)). reowned r.log r.holder r.stage r.who
+            r.owner owner' k u
+            (λ m is own. not_passed w.numbers id r.owner m
+            (not_true (is_among m w.numbers) (λ h. t.0 (sym own ∙ (g.numbers m h).1))) ∙ own)
             (r.each k u q.1))
             (at_set s.views id k both u t.1))
             (at_set vs other k spent_view u e);
         owned = λ m is. let h = r.owned m is in ⊎_elim
             (λ (mine : is_among m w.numbers ≡ true). (
               both,
-              subst (λ (k : ℕ). get_elem? (set vs other spent_view) k ≡ some both) (sym (passed w.numbers id r.owner m mine)) at_both,
+              subst (λ (k : ℕ). get_elem? (set vs other spent_view) k ≡ some both)
+                  (sym (passed w.numbers id r.owner m mine)) at_both,
               has_back m v.numbers w.numbers mine,
             ))
-            (λ (not_w : is_among m w.numbers ≡ false). let same : owner' m ≡ r.owner m = not_passed w.numbers id r.owner m not_w in
+            (λ (not_w : is_among m w.numbers ≡ false). let same : owner' m
+            ≡ r.owner m = not_passed w.numbers id r.owner m not_w in
             dite (ℕ_discrete (r.owner m) id)
-            (λ e. let v_is : h.0 ≡ v = one_view s.views id h.0 v (subst (λ (k : ℕ). get_elem? s.views k ≡ some h.0) e h.1) at in (
+            (λ e. let v_is : h.0
+            ≡ v = one_view s.views id h.0 v
+            (subst (λ (k : ℕ). get_elem? s.views k ≡ some h.0) e h.1) at in (
               both,
-              subst (λ (k : ℕ). get_elem? (set vs other spent_view) k ≡ some both) (sym (same ∙ e)) at_both,
-              has_front m v.numbers w.numbers (subst (λ (z : K). is_among m z.numbers ≡ true) v_is h.2),
+              subst (λ (k : ℕ). get_elem? (set vs other spent_view) k ≡ some both)
+                  (sym (same ∙ e)) at_both,
+              has_front m v.numbers w.numbers
+                  (subst (λ (z : K). is_among m z.numbers ≡ true) v_is h.2),
             ))
-            (λ not_id. let not_other : r.owner m ≢ other = λ z. not_both (is_among m w.numbers) (subst (λ (y : K). is_among m y.numbers ≡ true) (one_view s.views other h.0 w (subst (λ (j : ℕ). get_elem? s.views j ≡ some h.0) z h.1) at_w) h.2) not_w in (
+            (λ not_id. let not_other : r.owner m ≢ other = λ z. not_both (is_among m w.numbers)
+            (subst (λ (y : K). is_among m y.numbers ≡ true)
+            (one_view s.views other h.0 w
+            (subst (λ (j : ℕ). get_elem? s.views j ≡ some h.0) z h.1) at_w) h.2) not_w in (
               h.0,
-              subst (λ (k : ℕ). get_elem? (set vs other spent_view) k ≡ some h.0) (sym same) (set_else vs other (r.owner m) spent_view not_other ∙ (set_else s.views id (r.owner m) both not_id ∙ h.1)),
+              subst (λ (k : ℕ). get_elem? (set vs other spent_view) k ≡ some h.0) (sym same)
+                  (set_else vs other (r.owner m) spent_view not_other ∙
+                  (set_else s.views id (r.owner m) both not_id ∙ h.1)),
               h.2,
             )))
             (either_bool (is_among m w.numbers));
         callers = r.callers;
       }
 
-  -- where one pass has all numbers and not the turn, the value is in the slot, and the pass has seen its history
-  pub closes : (s : St) (r : Rule s) (id : ℕ) (v : K) → get_elem? s.views id ≡ some v → v.stage ≡ Without → ((n : ℕ) → IsPassNumber origin.passes n → is_among n v.numbers ≡ true)
-      → (x : V) × (s.homes ≡ some (Some x) ∷ []) × (base x ≡ origin.base) × IsPrefix v.seen (history x) × (history x ≡ entries_of caller v.numbers v.seen)
+  -- ---- the load after a join
+
+  pub settles : (slots id : ℕ) (me : M) → me.0.stage ≡ Without
+      → Allows Rule slots id me 1 (λ n. n) (settled caller (step slots 1 0 0 none) me)
+  settles slots id me idle s r _ at _ =
+      let v : K = me.0 in
+      let f = r.each id v at in
+      let idle' : has_turn v.stage ≡ false = ap has_turn idle in
+      let w : K = saw_view v v.seen Without in (
+        w,
+        keeps,
+        tt,
+        moved s r id v w
+            (set s.words 1 (get_or s.words 1 0)) s.homes r.log r.holder r.stage r.who at refl
+            (ap (λ (ws : List ℕ). set ws 1 (get_or ws 1 0)) r.words) r.place r.free
+            (λ busy. inr (busy, refl, idle')) r.callers
+            (record {
+              same_origin = f.same_origin;
+              numbers = f.numbers;
+              seen = f.seen;
+              looks = f.looks;
+              turn = λ e. absurd (true≢false (sym e));
+              seen_all = λ e. absurd (cc);
+              parts = no_parts r.log v.numbers;
+            })
+            (λ k u apart there. r.each k u there),
+        (
+          refl,
+          All-weaker (IsPartOf caller r.log v.numbers)
+              (λ p. entries_of caller p.numbers v.seen ≡ entries_of caller p.numbers p.seen)
+              (λ p is. seen_part r.log v.numbers v.seen p f.seen is) v.parts f.parts,
+        ),
+      )
+
+  -- where one pass has all numbers and not the turn, the value is in the slot, and the pass has
+  -- seen its history
+  pub closes : (s : St) (r : Rule s) (id : ℕ) (v : K) → get_elem? s.views id ≡ some v
+      → v.stage ≡ Without → ((n : ℕ) → IsPassNumber origin.passes n → is_among n v.numbers ≡ true)
+      → (x : V) × (s.homes ≡ some (Some x) ∷ []) × (base x ≡ origin.base)
+      × IsPrefix v.seen (history x) × (history x ≡ entries_of caller v.numbers v.seen)
   closes s r id v at idle all =
       let f = r.each id v at in
       let free : r.stage ≡ Without = dite (ℕ_discrete r.holder 0) (λ e. r.free e)
-      (λ busy. let h = held_by_other s r id v at (ap has_turn idle) busy in absurd (not_both (is_among r.holder v.numbers) (all r.holder h.0) h.1)) in
-      let l = subst (λ (st : TurnStage). IsPlaced base history st s.homes origin.base r.log) free r.place in
-      let mine : AreOf caller v.numbers r.log = All-weaker (λ e. IsPassNumber origin.passes (caller e)) (λ e. has_number v (caller e)) (λ e is. all (caller e) is) r.log r.callers in
-      (l.0, l.1, l.2, subst (λ (xs : List E). IsPrefix v.seen xs) (sym l.3) (seen_begins caller r.log v.numbers v.seen f.seen), l.3 ∙ seen_all_own caller r.log v.numbers v.seen mine f.seen)
+      (λ busy. let h = held_by_other s r id v at (ap has_turn idle) busy in
+      absurd (not_both (is_among r.holder v.numbers) (all r.holder h.0) h.1)) in
+      let l = subst
+      (λ (st : TurnStage). IsPlaced base history st s.homes origin.base r.log) free r.place in
+      let mine : AreOf caller v.numbers r.log =
+      All-weaker (λ e. IsPassNumber origin.passes (caller e)) (λ e. has_number v (caller e))
+      (λ e is. all (caller e) is) r.log r.callers in (
+        l.0,
+        l.1,
+        l.2,
+        subst (λ (xs : List E). IsPrefix v.seen xs) (sym l.3)
+            (seen_begins caller r.log v.numbers v.seen f.seen),
+        l.3 ∙ seen_all_own caller r.log v.numbers v.seen mine f.seen,
+      )
 
   -- ---- for the calls
 
   -- the slot's value was exchanged for this one
-  pub gives_new : (slots id : ℕ) (old me : M) (x : V) (n : ℕ) → me ≡ (old.0, (0, Some x) ∷ rest old.1) → old.1 ≡ (0, None) ∷ [] → old.0.stage ≡ Out → base x ≡ origin.base
-      → (more : List E) × (history x ≡ old.0.seen ++ more) × AreOf caller old.0.numbers more → n ≡ count_of (length (history x))
+  pub gives_new : (slots id : ℕ) (old me : M) (x : V) (n : ℕ)
+      → me ≡ (old.0, (0, Some x) ∷ rest old.1) → old.1 ≡ (0, None) ∷ [] → old.0.stage ≡ Out
+      → base x ≡ origin.base
+      → (more : List E) × (history x ≡ old.0.seen ++ more) × AreOf caller old.0.numbers more
+      → n ≡ count_of (length (history x))
       → Allows Rule slots id me 1 (λ _. n) (λ _. gave history (step slots 1 n 0 none) me n)
   gives_new slots id old me x n now hole out same_base grown n_is =
-      subst (λ (m : M). Allows Rule slots id m 1 (λ _. n) (λ _. gave history (step slots 1 n 0 none) m n)) (sym now)
-      (gives_slot slots id (old.0, (0, Some x) ∷ rest old.1) x n out (ap (λ (l : List (ℕ × Option V)). (0, Some x) ∷ rest l) hole) same_base grown n_is)
+      subst (λ (m : M). Allows Rule slots id m 1 (λ _. n)
+      (λ _. gave history (step slots 1 n 0 none) m n)) (sym now)
+      (gives_slot slots id (old.0, (0, Some x) ∷ rest old.1) x n out
+      (ap (λ (l : List (ℕ × Option V)). (0, Some x) ∷ rest l) hole) same_base grown n_is)
 
   -- what the last state says of the value that is taken out of the closed table
-  pub closed : (words : List ℕ) (slots : List (Option V)) (id : ℕ) (v : K) (found : Option V) → Final (Seen Rule id v) words slots → get_elem? slots 0 ≡ some found
+  pub closed : (words : List ℕ) (slots : List (Option V)) (id : ℕ) (v : K) (found : Option V)
+      → Final (Seen Rule id v) words slots → get_elem? slots 0 ≡ some found
       → v.stage ≡ Without → ((n : ℕ) → IsPassNumber origin.passes n → is_among n v.numbers ≡ true)
-      → (x : V) × (found ≡ Some x) × (base x ≡ origin.base) × IsPrefix v.seen (history x) × (history x ≡ entries_of caller v.numbers v.seen)
+      → (x : V) × (found ≡ Some x) × (base x ≡ origin.base) × IsPrefix v.seen (history x)
+      × (history x ≡ entries_of caller v.numbers v.seen)
   closed words slots id v found final at idle all =
       let k = closes final.0 final.1.0 id v final.1.1 idle all in
-      let there : get_elem? slots 0 ≡ some (Some k.0) = final.4 0 (Some k.0) (ap (λ (hs : List (maybe.Option (Option V))). get_elem? hs 0) k.1) in
+      let there : get_elem? slots 0 ≡ some (Some k.0) =
+      final.4 0 (Some k.0) (ap (λ (hs : List (maybe.Option (Option V))). get_elem? hs 0) k.1) in
       (k.0, one_view slots 0 found (Some k.0) at there, k.2, k.3, k.4)
 
-  pub closed_some : (words : List ℕ) (slots : List (Option V)) (id : ℕ) (v : K) (found : Option V) → Final (Seen Rule id v) words slots → get_elem? slots 0 ≡ some found
-      → v.stage ≡ Without → ((n : ℕ) → IsPassNumber origin.passes n → is_among n v.numbers ≡ true) → found ≡ None → ⊥
+  pub closed_some : (words : List ℕ) (slots : List (Option V)) (id : ℕ) (v : K) (found : Option V)
+      → Final (Seen Rule id v) words slots → get_elem? slots 0 ≡ some found
+      → v.stage ≡ Without → ((n : ℕ) → IsPassNumber origin.passes n → is_among n v.numbers ≡ true)
+      → found ≡ None → ⊥
   closed_some words slots id v found final at idle all nothing =
       let k = closed words slots id v found final at idle all in
       let is : found ≡ Some k.0 = k.1 in absurd (cc)
 
-  pub closed_value : (words : List ℕ) (slots : List (Option V)) (id : ℕ) (v : K) (found : Option V) (y : V) → Final (Seen Rule id v) words slots → get_elem? slots 0 ≡ some found
-      → v.stage ≡ Without → ((n : ℕ) → IsPassNumber origin.passes n → is_among n v.numbers ≡ true) → found ≡ Some y
-      → (base y ≡ origin.base) × IsPrefix v.seen (history y) × (history y ≡ entries_of caller v.numbers v.seen)
+  pub closed_value : (words : List ℕ) (slots : List (Option V)) (id : ℕ) (v : K) (found : Option V)
+      (y : V) → Final (Seen Rule id v) words slots → get_elem? slots 0 ≡ some found
+      → v.stage ≡ Without → ((n : ℕ) → IsPassNumber origin.passes n → is_among n v.numbers ≡ true)
+      → found ≡ Some y
+      → (base y ≡ origin.base) × IsPrefix v.seen (history y)
+      × (history y ≡ entries_of caller v.numbers v.seen)
   closed_value words slots id v found y final at idle all is =
       let k = closed words slots id v found final at idle all in
       let x_is : found ≡ Some k.0 = k.1 in
       let same : k.0 ≡ y = cc in
-      subst (λ (z : V). (base z ≡ origin.base) × IsPrefix v.seen (history z) × (history z ≡ entries_of caller v.numbers v.seen)) same (k.2, k.3, k.4)
+      subst (λ (z : V). (base z ≡ origin.base) × IsPrefix v.seen (history z)
+      × (history z ≡ entries_of caller v.numbers v.seen)) same (k.2, k.3, k.4)
 
 -- the stage and the slots of a seat, by what it is
-pub stage_of : {S B E : Type 0} (m : Me S (Known B E)) (v : Known B E) (c : List (ℕ × S)) → m ≡ (v, c) → m.0.stage ≡ v.stage
+pub stage_of : {S B E : Type 0} (m : Me S (Known B E)) (v : Known B E) (c : List (ℕ × S))
+    → m ≡ (v, c) → m.0.stage ≡ v.stage
 stage_of {S} {B} {E} m v c e = ap (λ (z : Me S (Known B E)). z.0.stage) e
 
-pub slot_of : {S B E : Type 0} (m : Me S (Known B E)) (v : Known B E) (a : ℕ × S) (c : List (ℕ × S)) → m ≡ (v, a ∷ c) → m.1 ≡ a ∷ rest m.1
-slot_of {S} {B} {E} m v a c e = ap (λ (z : Me S (Known B E)). z.1) e ∙ ap (λ (z : Me S (Known B E)). a ∷ rest z.1) (sym e)
+pub slot_of : {S B E : Type 0} (m : Me S (Known B E)) (v : Known B E) (a : ℕ × S) (c : List (ℕ × S))
+    → m ≡ (v, a ∷ c) → m.1 ≡ a ∷ rest m.1
+slot_of {S} {B} {E} m v a c e =
+    ap (λ (z : Me S (Known B E)). z.1) e ∙ ap (λ (z : Me S (Known B E)). a ∷ rest z.1) (sym e)
 
--- the value that was taken out of the slot shows that the pass's own entries stand in its history, and no others of its numbers
-pub took_own : {V B E : Type 0} (history : V → List E) (caller : E → ℕ) (v : Known B E) (m l : Me (Option V) (Known B E)) (c : List (ℕ × Option V)) (x y : V) (found : Option V)
-    → m ≡ (looked_view v 0 Won, c) → IsSeenOf caller (history x) m.0.numbers m.0.seen → l ≡ (saw_view m.0 (history x) Out, (0, Some x) ∷ m.1) → l.1 ≡ (0, found) ∷ rest l.1 → found ≡ Some y
+-- the value that was taken out of the slot shows that the pass's own entries stand in its history,
+-- and no others of its numbers
+pub took_own : {V B E : Type 0} (history : V → List E) (caller : E → ℕ) (v : Known B E)
+    (m l : Me (Option V) (Known B E)) (c : List (ℕ × Option V)) (x y : V) (found : Option V)
+    → m ≡ (looked_view v 0 Won, c) → IsSeenOf caller (history x) m.0.numbers m.0.seen
+    → l ≡ (saw_view m.0 (history x) Out, (0, Some x) ∷ m.1) → l.1 ≡ (0, found) ∷ rest l.1
+    → found ≡ Some y
     → entries_of caller v.numbers (history y) ≡ entries_of caller v.numbers v.seen
 took_own {V} {B} {E} history caller v m l c x y found won known taken out is =
     let carried : l.1 ≡ (0, Some x) ∷ m.1 = ap (λ (z : Me (Option V) (Known B E)). z.1) taken in
-    let same : ◌≡◌ {A = List (ℕ × Option V)} ((0, Some x) ∷ m.1) ((0, found) ∷ rest l.1) = sym carried ∙ out in
+    let same : ◌≡◌ {A = List (ℕ × Option V)} ((0, Some x) ∷ m.1) ((0, found) ∷ rest l.1) =
+    sym carried ∙ out in
     let pair : ◌≡◌ {A = ℕ × Option V} (0, Some x) (0, found) = cc in
     let value : Some x ≡ found = ap (λ (p : ℕ × Option V). p.1) pair in
     let x_is : x ≡ y = cc in
-    let known' : IsSeenOf caller (history x) v.numbers v.seen = subst (λ (z : Me (Option V) (Known B E)). IsSeenOf caller (history x) z.0.numbers z.0.seen) won known in
-    seen_own caller (history y) v.numbers v.seen (subst (λ (z : V). IsSeenOf caller (history z) v.numbers v.seen) x_is known')
+    let known' : IsSeenOf caller (history x) v.numbers v.seen =
+    subst (λ (z : Me (Option V) (Known B E)). IsSeenOf caller (history x) z.0.numbers z.0.seen)
+    won known in
+    seen_own caller (history y) v.numbers v.seen
+    (subst (λ (z : V). IsSeenOf caller (history z) v.numbers v.seen) x_is known')
+
+-- a joined pass has seen the own entries of both its parts
+pub joined_own : {V B E : Type 0} (caller : E → ℕ) (v w : Known B E)
+    (m m' : Me (Option V) (Known B E)) (c : List (ℕ × Option V))
+    → m ≡ (joined_view v w, c) → m' ≡ (saw_view m.0 m.0.seen Without, m.1)
+    → All (λ p. entries_of caller p.numbers m.0.seen
+    ≡ entries_of caller p.numbers p.seen) m.0.parts
+    → (entries_of caller v.numbers m'.0.seen ≡ entries_of caller v.numbers v.seen)
+    × (entries_of caller w.numbers m'.0.seen ≡ entries_of caller w.numbers w.seen)
+joined_own {V} {B} {E} caller v w m m' c is after told =
+    let Has : List E → Part E → Type 0 = λ xs p. entries_of caller p.numbers xs
+    ≡ entries_of caller p.numbers p.seen in
+    let all : All (Has (longer v.seen w.seen)) (part_of v ∷ part_of w ∷ []) =
+    subst (λ (z : Me (Option V) (Known B E)). All (Has z.0.seen) z.0.parts) is told in
+    let seen : m'.0.seen ≡ longer v.seen w.seen =
+    ap (λ (z : Me (Option V) (Known B E)). z.0.seen) after ∙ ap
+    (λ (z : Me (Option V) (Known B E)). z.0.seen) is in (
+      ap (entries_of caller v.numbers) seen ∙ All-head (Has (longer v.seen w.seen)) (part_of v)
+          (part_of w ∷ []) all,
+      ap (entries_of caller w.numbers) seen ∙ All-head (Has (longer v.seen w.seen)) (part_of w) []
+          (All-tail (Has (longer v.seen w.seen)) (part_of v) (part_of w ∷ []) all),
+    )
 
 -- ---- the passes of a new slot, one by one
 
 module _ {V B E : Type 0} (origin : Origin B) where
-  pub left_first : (me : Me (Option V) (Known B E)) (n k : ℕ) → me ≡ (new_view origin (numbers_from n (suc k)), [])
-      → (me.0.stage ≡ Without) × (me.0.numbers ≡ n ∷ drop 1 me.0.numbers) × (is_among n (drop 1 me.0.numbers) ≡ false)
-  left_first me n k is = subst (λ (z : Me (Option V) (Known B E)). (z.0.stage ≡ Without) × (z.0.numbers ≡ n ∷ drop 1 z.0.numbers) × (is_among n (drop 1 z.0.numbers) ≡ false)) (sym is)
-      (refl, refl, not_true (is_among n (numbers_from (suc n) k)) (λ h. let r = has_range n (suc n) k h in absurd (omega arith)))
+  pub left_first : (me : Me (Option V) (Known B E)) (n k : ℕ)
+      → me ≡ (new_view origin (numbers_from n (suc k)), [])
+      → (me.0.stage ≡ Without) × (me.0.numbers ≡ n ∷ drop 1 me.0.numbers)
+      × (is_among n (drop 1 me.0.numbers) ≡ false)
+  left_first me n k is =
+      subst (λ (z : Me (Option V) (Known B E)). (z.0.stage ≡ Without)
+      × (z.0.numbers ≡ n ∷ drop 1 z.0.numbers) × (is_among n (drop 1 z.0.numbers) ≡ false)) (sym is) (
+        refl,
+        refl,
+        not_true (is_among n (numbers_from (suc n) k))
+            (λ h. let r = has_range n (suc n) k h in absurd (omega arith)),
+      )
 
-  pub left_after : (me me' : Me (Option V) (Known B E)) (n k count : ℕ) → n + k ≡ count → n < count → me ≡ (new_view origin (numbers_from n (suc k)), []) → me' ≡ (others_view me.0, me.1)
+  pub left_after : (me me' : Me (Option V) (Known B E)) (n k count : ℕ) → n + k ≡ count → n < count
+      → me ≡ (new_view origin (numbers_from n (suc k)), []) → me' ≡ (others_view me.0, me.1)
       → (j : ℕ) × (n + 1 + j ≡ count) × (me' ≡ (new_view origin (numbers_from (n + 1) (suc j)), []))
   left_after me me' n zero count sum below is now = absurd (omega arith)
   left_after me me' n (suc j) count sum below is now = (
     j,
     omega arith,
-    now ∙ (ap (λ (z : Me (Option V) (Known B E)). (others_view z.0, z.1)) is ∙ ap (λ (m : ℕ). (new_view origin (numbers_from m (suc j)), [])) (omega arith)),
+    now ∙ (ap (λ (z : Me (Option V) (Known B E)). (others_view z.0, z.1)) is ∙ ap
+        (λ (m : ℕ). (new_view origin (numbers_from m (suc j)), [])) (omega arith)),
   )
 
-  pub one_alone : (me one : Me (Option V) (Known B E)) (n k : ℕ) → me ≡ (new_view origin (numbers_from n (suc k)), []) → one ≡ (single_view me.0, []) → one ≡ (new_view origin (n ∷ []), [])
-  one_alone me one n k is now = now ∙ ap (λ (z : Me (Option V) (Known B E)). (single_view z.0, [])) is
+  pub one_alone : (me one : Me (Option V) (Known B E)) (n k : ℕ)
+      → me ≡ (new_view origin (numbers_from n (suc k)), []) → one ≡ (single_view me.0, [])
+      → one ≡ (new_view origin (n ∷ []), [])
+  one_alone me one n k is now =
+      now ∙ ap (λ (z : Me (Option V) (Known B E)). (single_view z.0, [])) is
 
-  pub last_alone : (me : Me (Option V) (Known B E)) (n k : ℕ) → me ≡ (new_view origin (numbers_from n (suc k)), []) → k ≡ 0 → me ≡ (new_view origin (n ∷ []), [])
-  last_alone me n k is none_left = is ∙ ap (λ (j : ℕ). (new_view origin (numbers_from n (suc j)), [])) none_left
+  pub last_alone : (me : Me (Option V) (Known B E)) (n k : ℕ)
+      → me ≡ (new_view origin (numbers_from n (suc k)), []) → k ≡ 0
+      → me ≡ (new_view origin (n ∷ []), [])
+  last_alone me n k is none_left =
+      is ∙ ap (λ (j : ℕ). (new_view origin (numbers_from n (suc j)), [])) none_left
 
-  pub new_one : (me : Me (Option V) (Known B E)) (numbers : List ℕ) → me ≡ (new_view origin numbers, []) → (me.0.origin ≡ Some origin) × (me.0.seen ≡ []) × (me.0.looks ≡ []) × (me.0.numbers ≡ numbers)
-  new_one me numbers is = subst (λ (z : Me (Option V) (Known B E)). (z.0.origin ≡ Some origin) × (z.0.seen ≡ []) × (z.0.looks ≡ []) × (z.0.numbers ≡ numbers)) (sym is) (refl, refl, refl, refl)
+  pub new_one : (me : Me (Option V) (Known B E)) (numbers : List ℕ)
+      → me ≡ (new_view origin numbers, []) → (me.0.origin ≡ Some origin) × (me.0.seen ≡ [])
+      × (me.0.looks ≡ []) × (me.0.numbers ≡ numbers)
+  new_one me numbers is = subst
+      (λ (z : Me (Option V) (Known B E)). (z.0.origin ≡ Some origin) × (z.0.seen ≡ [])
+      × (z.0.looks ≡ []) × (z.0.numbers ≡ numbers)) (sym is) (refl, refl, refl, refl)

@@ -1,9 +1,8 @@
 -- Histories, and whose entries they have.
-use Prim.Native.Nat.{zero, suc}
-use Rattle.std.specs.Prelude.{◌≡◌, ℕ, ◌==◌, ◌≤◌, min, nat_le, Bool, true, false, if◌then◌else◌}
-use Rattle.std.specs.Prelude.{List, [], ◌∷◌, ◌++◌, length, All}
-use Rattle.std.specs.List.{list_any, filter}
-use Rattle.c5_rows.specs.Numbers.{is_among, numbers_from}
+use Rattle.std.specs.Prelude.{◌≡◌, ℕ, ◌≤◌, min, nat_le, true, false, if◌then◌else◌}
+use Rattle.std.specs.Prelude.{List, ◌++◌, length, All}
+use Rattle.std.specs.List.{filter}
+use Rattle.c5_rows.specs.Numbers.{is_among}
 
 -- the number that stands for a length: u64::MAX where it is longer
 abbrev pub count_of : ℕ → ℕ

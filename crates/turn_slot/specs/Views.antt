@@ -7,9 +7,10 @@ use lib.ListN.{get_elem?}
 use Rattle.atomic_table.specs.Table.{State, Me, Step}
 use Rattle.turn_slot.specs.declared.known.Known.{Known}
 use Rattle.turn_slot.specs.declared.known.Origin.{Origin}
+use Rattle.turn_slot.specs.declared.known.Part.{Part}
 use Rattle.turn_slot.specs.declared.known.TurnStage.{TurnStage}
 use Rattle.turn_slot.specs.declared.known.TurnStage.TheVariants.{Without, Won, Out, Back}
-use Rattle.turn_slot.specs.Entries.{count_of, IsPassNumber, longer, IsSeenOf}
+use Rattle.turn_slot.specs.Entries.{count_of, IsPassNumber, entries_of, longer, IsSeenOf}
 use Rattle.c5_rows.specs.Numbers.{is_among, numbers_from}
 
 abbrev pub has_turn : TurnStage → Bool
@@ -26,7 +27,14 @@ module _ {B E : Type 0} where
   -- a pass of these numbers that has seen and tried nothing
   abbrev pub new_view : Origin B → List ℕ → Known B E
   new_view origin numbers =
-      record { origin = Some origin; numbers = numbers; seen = []; looks = []; stage = Without }
+      record {
+        origin = Some origin;
+        numbers = numbers;
+        seen = [];
+        looks = [];
+        stage = Without;
+        parts = [];
+      }
 
   -- the first pass, before any is split off
   abbrev pub first_view : Origin B → Known B E
@@ -34,7 +42,8 @@ module _ {B E : Type 0} where
 
   -- what a pass that was joined to another knows
   abbrev pub spent_view : Known B E
-  spent_view = record { origin = None; numbers = []; seen = []; looks = []; stage = Without }
+  spent_view =
+      record { origin = None; numbers = []; seen = []; looks = []; stage = Without; parts = [] }
 
   -- the parts of a split: the other numbers, and the first one
   abbrev pub others_view : Known B E → Known B E
@@ -45,6 +54,7 @@ module _ {B E : Type 0} where
         seen = v.seen;
         looks = v.looks;
         stage = v.stage;
+        parts = [];
       }
 
   abbrev pub single_view : Known B E → Known B E
@@ -55,7 +65,12 @@ module _ {B E : Type 0} where
         seen = v.seen;
         looks = [];
         stage = Without;
+        parts = [];
       }
+
+  -- what a pass is to the one that it is joined to
+  abbrev pub part_of : Known B E → Part E
+  part_of v = record { numbers = v.numbers; seen = v.seen }
 
   abbrev pub joined_view : Known B E → Known B E → Known B E
   joined_view v w =
@@ -65,6 +80,7 @@ module _ {B E : Type 0} where
         seen = longer v.seen w.seen;
         looks = v.looks;
         stage = v.stage;
+        parts = part_of v ∷ part_of w ∷ [];
       }
 
   -- the exchange found n
@@ -76,12 +92,20 @@ module _ {B E : Type 0} where
         seen = v.seen;
         looks = v.looks ++ n ∷ [];
         stage = stage;
+        parts = [];
       }
 
   -- this history was seen
   abbrev pub saw_view : Known B E → List E → TurnStage → Known B E
   saw_view v seen stage =
-      record { origin = v.origin; numbers = v.numbers; seen = seen; looks = v.looks; stage = stage }
+      record {
+        origin = v.origin;
+        numbers = v.numbers;
+        seen = seen;
+        looks = v.looks;
+        stage = stage;
+        parts = [];
+      }
 
   -- the origin that a pass knows
   abbrev pub IsFrom : Origin B → Known B E → Type 0
@@ -97,6 +121,12 @@ module _ {B E : Type 0} where
   IsOut {V} number me = (me.1 ≡ (0, None) ∷ []) × (me.0.stage ≡ Out)
       × (me.0.numbers ≡ number ∷ drop 1 me.0.numbers)
 
+-- of a joined pass: its numbers are among these, and what it had seen is what it saw of the log
+abbrev pub IsPartOf : {E : Type 0} → (E → ℕ) → List E → List ℕ → Part E → Type 0
+IsPartOf caller log numbers p =
+    ((n : ℕ) → is_among n p.numbers ≡ true → is_among n numbers ≡ true)
+    × IsSeenOf caller log p.numbers p.seen
+
 module _ {B E : Type 0} (caller : E → ℕ) (origin : Origin B) (log : List E) (holder : ℕ)
     (stage : TurnStage) (who : ℕ) (owner : ℕ → ℕ) where
   -- what the rule says of one seat
@@ -109,6 +139,7 @@ module _ {B E : Type 0} (caller : E → ℕ) (origin : Origin B) (log : List E) 
     pub turn : has_turn v.stage ≡ true → (seat ≡ who) × (stage ≡ v.stage)
         × (pass_number v.numbers ≡ holder)
     pub seen_all : v.stage ≡ Out → v.seen ≡ log
+    pub parts : All (IsPartOf caller log v.numbers) v.parts
 
 module _ {V B E : Type 0} (base : V → B) (history : V → List E) where
   -- a value with this base and history lies in the slot
@@ -170,3 +201,9 @@ module _ {V B E : Type 0} where
   -- the turn was ended
   abbrev pub ended : Step (Option V) → Sat V B E → ℕ → Sat V B E → Type 0
   ended st m n m' = m' ≡ (saw_view m.0 m.0.seen Without, m.1)
+
+  -- the pass has seen each own entry of the parts that were joined into it
+  abbrev pub settled : (E → ℕ) → Step (Option V) → Sat V B E → ℕ → Sat V B E → Type 0
+  settled caller st m n m' = (m' ≡ (saw_view m.0 m.0.seen Without, m.1))
+      × All (λ (p : Part E). entries_of caller p.numbers m.0.seen
+      ≡ entries_of caller p.numbers p.seen) m.0.parts

@@ -12,7 +12,7 @@ ghost use Rattle.turn_slot.specs.Passes.{IfBusy, IsTook};
 
 use crate::kept::Kept;
 use crate::pass::{Pass, Take, Turn};
-use crate::rule::{COUNT, Ends, Gives, HOLDER, Takes, Tries, Unites};
+use crate::rule::{COUNT, Ends, Gives, HOLDER, Settles, Takes, Tries, Unites};
 use crate::slot::TurnSlot;
 
 impl<V: Kept> Pass<V> {
@@ -86,13 +86,16 @@ impl<V: Kept> TurnSlot<V> {
         Pass { number, seat }
     }
 
-    /// Makes two passes one. It has the number of the first.
+    /// Makes two passes one. It has the number of the first. The own entries of both are in the
+    /// history that it has seen.
     pub fn join(&self, a: Pass<V>, b: Pass<V>) -> Pass<V>
         requires a { IsPassOf self.now a }
         requires b { IsPassOf self.now b }
         ensures pass { IsPassOf self.now result }
         ensures numbers { numbers result ≡ numbers a ++ numbers b }
         ensures seen { seen result ≡ longer (seen a) (seen b) }
+        ensures own_a { entries_of V.caller (numbers a) (seen result) ≡ own a }
+        ensures own_b { entries_of V.caller (numbers b) (seen result) ≡ own b }
         ensures looks { looks result ≡ looks a }
     {
         let Pass { number, mut seat } = a;
@@ -100,7 +103,9 @@ impl<V: Kept> TurnSlot<V> {
             number: _,
             seat: other,
         } = b;
-        self.table.shared.join_seat::<Unites>(&mut seat, other);
+        let shared = &self.table.shared;
+        shared.join_seat::<Unites>(&mut seat, other);
+        shared.load::<Settles>(&mut seat, COUNT);
         Pass { number, seat }
     }
 

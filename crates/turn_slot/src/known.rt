@@ -20,6 +20,12 @@ pub enum TurnStage {
     Back,
 }
 
+/// What a pass had seen when it was joined to another, or took one in. No value of it is made.
+pub struct Part<E> {
+    pub numbers: LinkedList<u64>,
+    pub seen: LinkedList<E>,
+}
+
 /// What a pass knows. No value of it is made.
 pub struct Known<B, E> {
     /// `None` where the pass was joined to another.
@@ -31,4 +37,6 @@ pub struct Known<B, E> {
     /// The holder words that its exchanges found.
     pub looks: LinkedList<u64>,
     pub stage: TurnStage,
+    /// The passes that were just joined into it. Its next step drops them.
+    pub parts: LinkedList<Part<E>>,
 }

@@ -65,6 +65,15 @@ impl<V: Kept> Play<Option<V>, Known<V::Base, V::Entry>> for Ends {
     ghost then = { ended };
 }
 
+/// A load of the count word, which says that a joined pass has seen the own entries of its parts.
+pub struct Settles;
+
+impl<V: Kept> Play<Option<V>, Known<V::Base, V::Entry>> for Settles {
+    ghost use Rattle.turn_slot.specs.Views.{settled};
+
+    ghost then = { settled V.caller };
+}
+
 /// The first number goes to a pass of its own.
 pub struct Singles;
 

@@ -1,4 +1,5 @@
-use Rattle.c5_order.proofs.Later.{begins-unread, read-adds, others-keep, ends-one, last-is-free, commit-counts, commits-stay}
+use Rattle.c5_order.proofs.Later.{begins-unread, read-adds, others-keep, ends-one, last-is-free}
+use Rattle.c5_order.proofs.Later.{commit-counts, commits-stay}
 use Rattle.c5_order.proofs.law.transaction_law.Goals as goal
 
 pub returns : goal.returns

@@ -4,4 +4,5 @@ use Rattle.c5_order.specs.Marks.{noted_mark, removed}
 use Rattle.c5_order.proofs.marks.remove.Given as goal
 
 abbrev pub invariant-loop-done : goal.invariant-loop-done
-invariant-loop-done l = (q : Key) → noted_mark l.versions q ≡ removed l.stamp (drop (length l.writes - l.done) l.writes) q (noted_mark l.initial.versions q)
+invariant-loop-done l = (q : Key) → noted_mark l.versions q
+    ≡ removed l.stamp (drop (length l.writes - l.done) l.writes) q (noted_mark l.initial.versions q)

@@ -9,5 +9,7 @@ use Rattle.c5_primary.proofs.latest.note_writes.Given as goal
 abbrev pub invariant-loop-write : goal.invariant-loop-write
 invariant-loop-write l = record {
   ordered : IsOrdered row_name_cmp l.places;
-  noted : (name : RowName) → noted (drop l.write-index l.writes) l.place name (place_at l.places.entries name) ≡ noted l.writes l.place name (place_at l.fn.places.entries name);
+  noted : (name : RowName) → noted (drop l.write-index l.writes) l.place name
+      (place_at l.places.entries name)
+      ≡ noted l.writes l.place name (place_at l.fn.places.entries name);
 }

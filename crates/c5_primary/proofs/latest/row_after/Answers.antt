@@ -7,7 +7,8 @@ use Rattle.c5_primary.proofs.latest.row_after.Goals as goal
 
 pub bounds-txns-place : goal.bounds-txns-place
 bounds-txns-place c =
-    let left = subst (IsLeftAt c.args.start.now c.args.txns.now c.args.name.now) (sym c.in-Some.ensures.value) (c.requires c.args.name.now) in
+    let left = subst (IsLeftAt c.args.start.now c.args.txns.now c.args.name.now)
+    (sym c.in-Some.ensures.value) (c.requires c.args.name.now) in
     place-within c.args.start.now c.args.txns.now c.args.name.now c.in-Some.place.now left
 
 pub returns-in-Some : goal.returns-in-Some
@@ -16,10 +17,16 @@ returns-in-Some c =
     let name = c.args.name.now in
     let place = c.in-Some.place.now in
     let txn = get_or txns place c.index-txns-place.result in
-    let left = subst (IsLeftAt c.args.start.now txns name) (sym c.in-Some.ensures.value) (c.requires name) in
-    let at : slice_get txns place ≡ Some txn = slice_get-get_or txns place c.index-txns-place.result (place-within c.args.start.now txns name place left) in
-    c.row_kept.ensures ∙ ap row_kept c.find.ensures ∙ row-there c.args.start.now txns name place txn left at
+    let left = subst (IsLeftAt c.args.start.now txns name) (sym c.in-Some.ensures.value)
+    (c.requires name) in
+    let at : slice_get txns place ≡ Some txn =
+    slice_get-get_or txns place c.index-txns-place.result
+    (place-within c.args.start.now txns name place left) in
+    c.row_kept.ensures ∙ ap row_kept c.find.ensures ∙ row-there c.args.start.now txns name place txn
+    left at
 
 pub returns-in-None : goal.returns-in-None
 returns-in-None c =
-    c.get-in-None.ensures ∙ sym (subst (IsLeftAt c.args.start.now c.args.txns.now c.args.name.now) (sym c.in-None.ensures.value) (c.requires c.args.name.now))
+    c.get-in-None.ensures ∙ sym
+    (subst (IsLeftAt c.args.start.now c.args.txns.now c.args.name.now)
+    (sym c.in-None.ensures.value) (c.requires c.args.name.now))

@@ -4,4 +4,5 @@ use Rattle.c5_primary.specs.Running.{settled}
 use Rattle.c5_primary.proofs.running.read.Given as goal
 
 abbrev pub invariant-loop : goal.invariant-loop
-invariant-loop g l = (settled l.session ≡ settled l.initial.session) × (answers_of l.session ≡ answers_of l.initial.session)
+invariant-loop g l = (settled l.session ≡ settled l.initial.session)
+    × (answers_of l.session ≡ answers_of l.initial.session)

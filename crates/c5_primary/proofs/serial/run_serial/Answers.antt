@@ -13,7 +13,8 @@ returns c =
     let none : State = empty in
     let made : c.in_ok-txns.txns.items ≡ in_order 0 bodies none =
     c.in_ok-txns.ensures
-    ∙ ap (λ (these : List (List Statement)). in_order 0 these c.new-start.result) c.bodies.ensures.value
+    ∙ ap (λ (these : List (List Statement)). in_order 0 these c.new-start.result)
+    c.bodies.ensures.value
     ∙ ap (in_order 0 bodies) c.new-start.ensures in
     record {
       exact = made ∙ in_order-serial_txns bodies none;

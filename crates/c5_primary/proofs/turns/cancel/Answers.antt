@@ -1,4 +1,5 @@
-use Rattle.std.proofs.Common.{rules, ◌≡◌, ◌∙◌, sym, subst, ap, refl, Some, None, List, [], ◌∷◌, ◌++◌, ℕ, true, inl, inr}
+use Rattle.std.proofs.Common.{rules, ◌≡◌, ◌∙◌, sym, subst, ap, refl, Some, None, List, [], ◌∷◌}
+use Rattle.std.proofs.Common.{◌++◌, ℕ, true, inl, inr}
 use Rattle.std.specs.Prelude.{IfSome}
 use Rattle.c5_rows.specs.Numbers.{is_among}
 use Rattle.c5_definitions.specs.declared.history.Entry.{Entry}
@@ -14,75 +15,131 @@ use Rattle.c5_primary.specs.declared.state.Opened.{Opened}
 use Rattle.c5_primary.specs.declared.state.SessionState.{SessionState}
 use Rattle.c5_primary.specs.Sessions.{txn_begun, answers_of}
 use Rattle.c5_primary.specs.Parts.{state_of, HoldsParts}
-use Rattle.c5_primary.proofs.TurnLemmas.{number-among, Turned, turned, outcome-then, one-of, none-of, same-state, refused, outcome-at, open-at, kept-open, read-answers, kept-answers}
+use Rattle.c5_primary.proofs.TurnLemmas.{number-among, Turned, turned, outcome-then, one-of}
+use Rattle.c5_primary.proofs.TurnLemmas.{none-of, same-state, refused, outcome-at, open-at}
+use Rattle.c5_primary.proofs.TurnLemmas.{kept-open, read-answers, kept-answers}
 use Rattle.c5_primary.proofs.turns.cancel.Goals as goal
 
 pub cancel-requires : goal.cancel-requires
 cancel-requires c =
-    let there : c.args.parts.now.pass ≡ Some c.in-Some.pass = sym c.take.ensures.value ∙ c.in-Some.is in
+    let there : c.args.parts.now.pass ≡ Some c.in-Some.pass =
+    sym c.take.ensures.value ∙ c.in-Some.is in
     let s : SessionState = state_of c.args.parts.now in
     let h = c.in-Took.value.history in
-    let nums : s.numbers ≡ numbers c.in-Some.pass = ap (λ p. elim p [ None ↦ [] | Some x ↦ numbers x ]) there in
-    let saw : s.seen ≡ seen c.in-Some.pass = ap (λ p. elim p [ None ↦ [] | Some x ↦ seen x ]) there in
-    let looked : s.looks ≡ looks c.in-Some.pass = ap (λ p. elim p [ None ↦ [] | Some x ↦ looks x ]) there in
-    let among : is_among (pass_number s.numbers) s.numbers ≡ true = rw (nums) (number-among (numbers c.in-Some.pass) c.in-Some.pass.number c.in-Some.pass.idle.2) in
-    let t = turned s h among (rw (← c.in-Took.ensures.base) c.know_history.ensures) (rw (saw) c.in-Took.ensures.seen) (rw (nums, saw) c.in-Took.ensures.own) in
+    let nums : s.numbers ≡ numbers c.in-Some.pass =
+    ap (λ p. elim p [ None ↦ [] | Some x ↦ numbers x ]) there in
+    let saw : s.seen ≡ seen c.in-Some.pass =
+    ap (λ p. elim p [ None ↦ [] | Some x ↦ seen x ]) there in
+    let looked : s.looks ≡ looks c.in-Some.pass =
+    ap (λ p. elim p [ None ↦ [] | Some x ↦ looks x ]) there in
+    let among : is_among (pass_number s.numbers) s.numbers ≡ true =
+    rw (nums)
+    (number-among (numbers c.in-Some.pass) c.in-Some.pass.number c.in-Some.pass.idle.2) in
+    let t = turned s h among (rw (← c.in-Took.ensures.base) c.know_history.ensures)
+    (rw (saw) c.in-Took.ensures.seen) (rw (nums, saw) c.in-Took.ensures.own) in
     let same : turn_numbers c.in-Took.turn ≡ s.numbers = c.in-Took.ensures.turn.1 ∙ sym nums in
     let o = c.in-Some-begun.opened in
     let b : Begun = txn_begun s o in
-    let stays = t.open_still o (subst (λ q. IfSome q (λ o. IsOpen s.seen (txn_begun s o))) c.in-Some-begun.is c.requires.holds.1) in
+    let stays =
+    t.open_still o
+    (subst (λ q. IfSome q (λ o. IsOpen s.seen (txn_begun s o))) c.in-Some-begun.is
+    c.requires.holds.1) in
     (b, stays.0, refl)
 
 pub give-requires-clause-base : goal.give-requires-clause-base
 give-requires-clause-base c =
-    let there : c.args.parts.now.pass ≡ Some c.in-Some.pass = sym c.take.ensures.value ∙ c.in-Some.is in
+    let there : c.args.parts.now.pass ≡ Some c.in-Some.pass =
+    sym c.take.ensures.value ∙ c.in-Some.is in
     let s : SessionState = state_of c.args.parts.now in
     let h = c.in-Took.value.history in
-    let nums : s.numbers ≡ numbers c.in-Some.pass = ap (λ p. elim p [ None ↦ [] | Some x ↦ numbers x ]) there in
-    let saw : s.seen ≡ seen c.in-Some.pass = ap (λ p. elim p [ None ↦ [] | Some x ↦ seen x ]) there in
-    let looked : s.looks ≡ looks c.in-Some.pass = ap (λ p. elim p [ None ↦ [] | Some x ↦ looks x ]) there in
-    let among : is_among (pass_number s.numbers) s.numbers ≡ true = rw (nums) (number-among (numbers c.in-Some.pass) c.in-Some.pass.number c.in-Some.pass.idle.2) in
-    let t = turned s h among (rw (← c.in-Took.ensures.base) c.know_history.ensures) (rw (saw) c.in-Took.ensures.seen) (rw (nums, saw) c.in-Took.ensures.own) in
+    let nums : s.numbers ≡ numbers c.in-Some.pass =
+    ap (λ p. elim p [ None ↦ [] | Some x ↦ numbers x ]) there in
+    let saw : s.seen ≡ seen c.in-Some.pass =
+    ap (λ p. elim p [ None ↦ [] | Some x ↦ seen x ]) there in
+    let looked : s.looks ≡ looks c.in-Some.pass =
+    ap (λ p. elim p [ None ↦ [] | Some x ↦ looks x ]) there in
+    let among : is_among (pass_number s.numbers) s.numbers ≡ true =
+    rw (nums)
+    (number-among (numbers c.in-Some.pass) c.in-Some.pass.number c.in-Some.pass.idle.2) in
+    let t = turned s h among (rw (← c.in-Took.ensures.base) c.know_history.ensures)
+    (rw (saw) c.in-Took.ensures.seen) (rw (nums, saw) c.in-Took.ensures.own) in
     let same : turn_numbers c.in-Took.turn ≡ s.numbers = c.in-Took.ensures.turn.1 ∙ sym nums in
     let o = c.in-Some-begun.opened in
     let b : Begun = txn_begun s o in
-    let stays = t.open_still o (subst (λ q. IfSome q (λ o. IsOpen s.seen (txn_begun s o))) c.in-Some-begun.is c.requires.holds.1) in
+    let stays =
+    t.open_still o
+    (subst (λ q. IfSome q (λ o. IsOpen s.seen (txn_begun s o))) c.in-Some-begun.is
+    c.requires.holds.1) in
     let after = c.cancel.ensures b stays.0 refl in
     ap (λ z. z.base) after ∙ c.in-Took.ensures.base
 
 pub give-requires-clause-history : goal.give-requires-clause-history
 give-requires-clause-history c =
-    let there : c.args.parts.now.pass ≡ Some c.in-Some.pass = sym c.take.ensures.value ∙ c.in-Some.is in
+    let there : c.args.parts.now.pass ≡ Some c.in-Some.pass =
+    sym c.take.ensures.value ∙ c.in-Some.is in
     let s : SessionState = state_of c.args.parts.now in
     let h = c.in-Took.value.history in
-    let nums : s.numbers ≡ numbers c.in-Some.pass = ap (λ p. elim p [ None ↦ [] | Some x ↦ numbers x ]) there in
-    let saw : s.seen ≡ seen c.in-Some.pass = ap (λ p. elim p [ None ↦ [] | Some x ↦ seen x ]) there in
-    let looked : s.looks ≡ looks c.in-Some.pass = ap (λ p. elim p [ None ↦ [] | Some x ↦ looks x ]) there in
-    let among : is_among (pass_number s.numbers) s.numbers ≡ true = rw (nums) (number-among (numbers c.in-Some.pass) c.in-Some.pass.number c.in-Some.pass.idle.2) in
-    let t = turned s h among (rw (← c.in-Took.ensures.base) c.know_history.ensures) (rw (saw) c.in-Took.ensures.seen) (rw (nums, saw) c.in-Took.ensures.own) in
+    let nums : s.numbers ≡ numbers c.in-Some.pass =
+    ap (λ p. elim p [ None ↦ [] | Some x ↦ numbers x ]) there in
+    let saw : s.seen ≡ seen c.in-Some.pass =
+    ap (λ p. elim p [ None ↦ [] | Some x ↦ seen x ]) there in
+    let looked : s.looks ≡ looks c.in-Some.pass =
+    ap (λ p. elim p [ None ↦ [] | Some x ↦ looks x ]) there in
+    let among : is_among (pass_number s.numbers) s.numbers ≡ true =
+    rw (nums)
+    (number-among (numbers c.in-Some.pass) c.in-Some.pass.number c.in-Some.pass.idle.2) in
+    let t = turned s h among (rw (← c.in-Took.ensures.base) c.know_history.ensures)
+    (rw (saw) c.in-Took.ensures.seen) (rw (nums, saw) c.in-Took.ensures.own) in
     let same : turn_numbers c.in-Took.turn ≡ s.numbers = c.in-Took.ensures.turn.1 ∙ sym nums in
     let o = c.in-Some-begun.opened in
     let b : Begun = txn_begun s o in
-    let stays = t.open_still o (subst (λ q. IfSome q (λ o. IsOpen s.seen (txn_begun s o))) c.in-Some-begun.is c.requires.holds.1) in
+    let stays =
+    t.open_still o
+    (subst (λ q. IfSome q (λ o. IsOpen s.seen (txn_begun s o))) c.in-Some-begun.is
+    c.requires.holds.1) in
     let after = c.cancel.ensures b stays.0 refl in (
       record { caller = pass_number s.numbers; stamp = o.stamp; event = events.Cancel } ∷ [],
-      ap (λ z. z.history) after ∙ ap (λ g. g ++ record { caller = pass_number s.numbers; stamp = o.stamp; event = events.Cancel } ∷ []) (sym c.in-Took.ensures.history),
-      subst (λ ns. AreOf {E = Entry} (λ e. e.caller) ns (record { caller = pass_number s.numbers; stamp = o.stamp; event = events.Cancel } ∷ [])) (sym same) (one-of s.numbers o.stamp events.Cancel among),
+      ap (λ z. z.history) after ∙ ap
+          (λ g. g ++ record {
+            caller = pass_number s.numbers;
+            stamp = o.stamp;
+            event = events.Cancel;
+          } ∷ []) (sym c.in-Took.ensures.history),
+      subst (λ ns. AreOf {E = Entry} (λ e. e.caller) ns
+          (record { caller = pass_number s.numbers; stamp = o.stamp; event = events.Cancel } ∷ []))
+          (sym same) (one-of s.numbers o.stamp events.Cancel among),
     )
 
 pub returns-in-Took-clause-cancel : goal.returns-in-Took-clause-cancel
 returns-in-Took-clause-cancel c =
-    let there : c.args.parts.now.pass ≡ Some c.in-Some.pass = sym c.take.ensures.value ∙ c.in-Some.is in
+    let there : c.args.parts.now.pass ≡ Some c.in-Some.pass =
+    sym c.take.ensures.value ∙ c.in-Some.is in
     let s : SessionState = state_of c.args.parts.now in
     let h = c.in-Took.value.history in
-    let nums : s.numbers ≡ numbers c.in-Some.pass = ap (λ p. elim p [ None ↦ [] | Some x ↦ numbers x ]) there in
-    let saw : s.seen ≡ seen c.in-Some.pass = ap (λ p. elim p [ None ↦ [] | Some x ↦ seen x ]) there in
-    let looked : s.looks ≡ looks c.in-Some.pass = ap (λ p. elim p [ None ↦ [] | Some x ↦ looks x ]) there in
-    let among : is_among (pass_number s.numbers) s.numbers ≡ true = rw (nums) (number-among (numbers c.in-Some.pass) c.in-Some.pass.number c.in-Some.pass.idle.2) in
-    let t = turned s h among (rw (← c.in-Took.ensures.base) c.know_history.ensures) (rw (saw) c.in-Took.ensures.seen) (rw (nums, saw) c.in-Took.ensures.own) in
+    let nums : s.numbers ≡ numbers c.in-Some.pass =
+    ap (λ p. elim p [ None ↦ [] | Some x ↦ numbers x ]) there in
+    let saw : s.seen ≡ seen c.in-Some.pass =
+    ap (λ p. elim p [ None ↦ [] | Some x ↦ seen x ]) there in
+    let looked : s.looks ≡ looks c.in-Some.pass =
+    ap (λ p. elim p [ None ↦ [] | Some x ↦ looks x ]) there in
+    let among : is_among (pass_number s.numbers) s.numbers ≡ true =
+    rw (nums)
+    (number-among (numbers c.in-Some.pass) c.in-Some.pass.number c.in-Some.pass.idle.2) in
+    let t = turned s h among (rw (← c.in-Took.ensures.base) c.know_history.ensures)
+    (rw (saw) c.in-Took.ensures.seen) (rw (nums, saw) c.in-Took.ensures.own) in
     let same : turn_numbers c.in-Took.turn ≡ s.numbers = c.in-Took.ensures.turn.1 ∙ sym nums in
     let o = c.in-Some-begun.opened in
     let b : Begun = txn_begun s o in
-    let stays = t.open_still o (subst (λ q. IfSome q (λ o. IsOpen s.seen (txn_begun s o))) c.in-Some-begun.is c.requires.holds.1) in
-    let after = c.cancel.ensures b stays.0 refl in
-    (h, o, t.at, c.in-Some-begun.is, same-state _ _ _ None _ s.numbers _ (with_event h b events.Cancel) _ (s.looks ++ 0 ∷ []) (c.give.ensures.numbers ∙ same) (c.give.ensures.seen ∙ ap (λ z. z.history) after) (c.give.ensures.looks ∙ c.in-Took.ensures.took ∙ ap (λ l. l ++ 0 ∷ []) (sym looked)))
+    let stays =
+    t.open_still o
+    (subst (λ q. IfSome q (λ o. IsOpen s.seen (txn_begun s o))) c.in-Some-begun.is
+    c.requires.holds.1) in
+    let after = c.cancel.ensures b stays.0 refl in (
+      h,
+      o,
+      t.at,
+      c.in-Some-begun.is,
+      same-state _ _ _ None _ s.numbers _ (with_event h b events.Cancel) _ (s.looks ++ 0 ∷ [])
+          (c.give.ensures.numbers ∙ same) (c.give.ensures.seen ∙ ap (λ z. z.history) after)
+          (c.give.ensures.looks ∙ c.in-Took.ensures.took ∙ ap (λ l. l ++ 0 ∷ []) (sym looked)),
+    )

@@ -1,4 +1,5 @@
-use Rattle.std.proofs.Common.{rules, ◌≡◌, ◌∙◌, sym, subst, ap, refl, Some, None, List, [], ◌∷◌, ◌++◌, ℕ, true, inl, inr}
+use Rattle.std.proofs.Common.{rules, ◌≡◌, ◌∙◌, sym, subst, ap, refl, Some, None, List, [], ◌∷◌}
+use Rattle.std.proofs.Common.{◌++◌, ℕ, true, inl, inr}
 use Rattle.std.specs.Prelude.{IfSome}
 use Rattle.c5_rows.specs.Numbers.{is_among}
 use Rattle.c5_definitions.specs.declared.history.Entry.{Entry}
@@ -15,139 +16,266 @@ use Rattle.c5_primary.specs.declared.state.Opened.{Opened}
 use Rattle.c5_primary.specs.declared.state.SessionState.{SessionState}
 use Rattle.c5_primary.specs.Sessions.{txn_begun, answers_of}
 use Rattle.c5_primary.specs.Parts.{state_of, HoldsParts}
-use Rattle.c5_primary.proofs.TurnLemmas.{number-among, Turned, turned, outcome-then, one-of, none-of, same-state, outcome-at, open-at, kept-open, decided-open, decided-more, read-answers, kept-answers}
+use Rattle.c5_primary.proofs.TurnLemmas.{number-among, Turned, turned, outcome-then, one-of}
+use Rattle.c5_primary.proofs.TurnLemmas.{none-of, same-state, outcome-at, open-at, kept-open}
+use Rattle.c5_primary.proofs.TurnLemmas.{decided-open, decided-more, read-answers, kept-answers}
 use Rattle.c5_primary.proofs.turns.read.Goals as goal
 
 pub read-requires : goal.read-requires
 read-requires c =
-    let there : c.args.parts.now.pass ≡ Some c.in-Some.pass = sym c.take.ensures.value ∙ c.in-Some.is in
+    let there : c.args.parts.now.pass ≡ Some c.in-Some.pass =
+    sym c.take.ensures.value ∙ c.in-Some.is in
     let s : SessionState = state_of c.args.parts.now in
     let h = c.in-Took.value.history in
-    let nums : s.numbers ≡ numbers c.in-Some.pass = ap (λ p. elim p [ None ↦ [] | Some x ↦ numbers x ]) there in
-    let saw : s.seen ≡ seen c.in-Some.pass = ap (λ p. elim p [ None ↦ [] | Some x ↦ seen x ]) there in
-    let looked : s.looks ≡ looks c.in-Some.pass = ap (λ p. elim p [ None ↦ [] | Some x ↦ looks x ]) there in
-    let among : is_among (pass_number s.numbers) s.numbers ≡ true = rw (nums) (number-among (numbers c.in-Some.pass) c.in-Some.pass.number c.in-Some.pass.idle.2) in
-    let t = turned s h among (rw (← c.in-Took.ensures.base) c.know_history.ensures) (rw (saw) c.in-Took.ensures.seen) (rw (nums, saw) c.in-Took.ensures.own) in
+    let nums : s.numbers ≡ numbers c.in-Some.pass =
+    ap (λ p. elim p [ None ↦ [] | Some x ↦ numbers x ]) there in
+    let saw : s.seen ≡ seen c.in-Some.pass =
+    ap (λ p. elim p [ None ↦ [] | Some x ↦ seen x ]) there in
+    let looked : s.looks ≡ looks c.in-Some.pass =
+    ap (λ p. elim p [ None ↦ [] | Some x ↦ looks x ]) there in
+    let among : is_among (pass_number s.numbers) s.numbers ≡ true =
+    rw (nums)
+    (number-among (numbers c.in-Some.pass) c.in-Some.pass.number c.in-Some.pass.idle.2) in
+    let t = turned s h among (rw (← c.in-Took.ensures.base) c.know_history.ensures)
+    (rw (saw) c.in-Took.ensures.seen) (rw (nums, saw) c.in-Took.ensures.own) in
     let same : turn_numbers c.in-Took.turn ≡ s.numbers = c.in-Took.ensures.turn.1 ∙ sym nums in
     let o = c.in-Some-begun.opened in
     let b : Begun = txn_begun s o in
-    let stays = t.open_still o (subst (λ q. IfSome q (λ o. IsOpen s.seen (txn_begun s o))) c.in-Some-begun.is c.requires.holds.1) in
+    let stays =
+    t.open_still o
+    (subst (λ q. IfSome q (λ o. IsOpen s.seen (txn_begun s o))) c.in-Some-begun.is
+    c.requires.holds.1) in
     (b, stays.0, refl)
 
 pub give-requires-clause-base : goal.give-requires-clause-base
 give-requires-clause-base c =
-    let there : c.args.parts.now.pass ≡ Some c.in-Some.pass = sym c.take.ensures.value ∙ c.in-Some.is in
+    let there : c.args.parts.now.pass ≡ Some c.in-Some.pass =
+    sym c.take.ensures.value ∙ c.in-Some.is in
     let s : SessionState = state_of c.args.parts.now in
     let h = c.in-Took.value.history in
-    let nums : s.numbers ≡ numbers c.in-Some.pass = ap (λ p. elim p [ None ↦ [] | Some x ↦ numbers x ]) there in
-    let saw : s.seen ≡ seen c.in-Some.pass = ap (λ p. elim p [ None ↦ [] | Some x ↦ seen x ]) there in
-    let looked : s.looks ≡ looks c.in-Some.pass = ap (λ p. elim p [ None ↦ [] | Some x ↦ looks x ]) there in
-    let among : is_among (pass_number s.numbers) s.numbers ≡ true = rw (nums) (number-among (numbers c.in-Some.pass) c.in-Some.pass.number c.in-Some.pass.idle.2) in
-    let t = turned s h among (rw (← c.in-Took.ensures.base) c.know_history.ensures) (rw (saw) c.in-Took.ensures.seen) (rw (nums, saw) c.in-Took.ensures.own) in
+    let nums : s.numbers ≡ numbers c.in-Some.pass =
+    ap (λ p. elim p [ None ↦ [] | Some x ↦ numbers x ]) there in
+    let saw : s.seen ≡ seen c.in-Some.pass =
+    ap (λ p. elim p [ None ↦ [] | Some x ↦ seen x ]) there in
+    let looked : s.looks ≡ looks c.in-Some.pass =
+    ap (λ p. elim p [ None ↦ [] | Some x ↦ looks x ]) there in
+    let among : is_among (pass_number s.numbers) s.numbers ≡ true =
+    rw (nums)
+    (number-among (numbers c.in-Some.pass) c.in-Some.pass.number c.in-Some.pass.idle.2) in
+    let t = turned s h among (rw (← c.in-Took.ensures.base) c.know_history.ensures)
+    (rw (saw) c.in-Took.ensures.seen) (rw (nums, saw) c.in-Took.ensures.own) in
     let same : turn_numbers c.in-Took.turn ≡ s.numbers = c.in-Took.ensures.turn.1 ∙ sym nums in
     let o = c.in-Some-begun.opened in
     let b : Begun = txn_begun s o in
-    let stays = t.open_still o (subst (λ q. IfSome q (λ o. IsOpen s.seen (txn_begun s o))) c.in-Some-begun.is c.requires.holds.1) in
+    let stays =
+    t.open_still o
+    (subst (λ q. IfSome q (λ o. IsOpen s.seen (txn_begun s o))) c.in-Some-begun.is
+    c.requires.holds.1) in
     let after = c.in-Ok.ensures.ok b stays.0 refl in
     ap (λ z. z.base) after ∙ c.in-Took.ensures.base
 
 pub give-requires-clause-history : goal.give-requires-clause-history
 give-requires-clause-history c =
-    let there : c.args.parts.now.pass ≡ Some c.in-Some.pass = sym c.take.ensures.value ∙ c.in-Some.is in
+    let there : c.args.parts.now.pass ≡ Some c.in-Some.pass =
+    sym c.take.ensures.value ∙ c.in-Some.is in
     let s : SessionState = state_of c.args.parts.now in
     let h = c.in-Took.value.history in
-    let nums : s.numbers ≡ numbers c.in-Some.pass = ap (λ p. elim p [ None ↦ [] | Some x ↦ numbers x ]) there in
-    let saw : s.seen ≡ seen c.in-Some.pass = ap (λ p. elim p [ None ↦ [] | Some x ↦ seen x ]) there in
-    let looked : s.looks ≡ looks c.in-Some.pass = ap (λ p. elim p [ None ↦ [] | Some x ↦ looks x ]) there in
-    let among : is_among (pass_number s.numbers) s.numbers ≡ true = rw (nums) (number-among (numbers c.in-Some.pass) c.in-Some.pass.number c.in-Some.pass.idle.2) in
-    let t = turned s h among (rw (← c.in-Took.ensures.base) c.know_history.ensures) (rw (saw) c.in-Took.ensures.seen) (rw (nums, saw) c.in-Took.ensures.own) in
+    let nums : s.numbers ≡ numbers c.in-Some.pass =
+    ap (λ p. elim p [ None ↦ [] | Some x ↦ numbers x ]) there in
+    let saw : s.seen ≡ seen c.in-Some.pass =
+    ap (λ p. elim p [ None ↦ [] | Some x ↦ seen x ]) there in
+    let looked : s.looks ≡ looks c.in-Some.pass =
+    ap (λ p. elim p [ None ↦ [] | Some x ↦ looks x ]) there in
+    let among : is_among (pass_number s.numbers) s.numbers ≡ true =
+    rw (nums)
+    (number-among (numbers c.in-Some.pass) c.in-Some.pass.number c.in-Some.pass.idle.2) in
+    let t = turned s h among (rw (← c.in-Took.ensures.base) c.know_history.ensures)
+    (rw (saw) c.in-Took.ensures.seen) (rw (nums, saw) c.in-Took.ensures.own) in
     let same : turn_numbers c.in-Took.turn ≡ s.numbers = c.in-Took.ensures.turn.1 ∙ sym nums in
     let o = c.in-Some-begun.opened in
     let b : Begun = txn_begun s o in
-    let stays = t.open_still o (subst (λ q. IfSome q (λ o. IsOpen s.seen (txn_begun s o))) c.in-Some-begun.is c.requires.holds.1) in
+    let stays =
+    t.open_still o
+    (subst (λ q. IfSome q (λ o. IsOpen s.seen (txn_begun s o))) c.in-Some-begun.is
+    c.requires.holds.1) in
     let after = c.in-Ok.ensures.ok b stays.0 refl in (
-      record { caller = pass_number s.numbers; stamp = o.stamp; event = (events.Read c.args.name.now) } ∷ [],
-      ap (λ z. z.history) after ∙ ap (λ g. g ++ record { caller = pass_number s.numbers; stamp = o.stamp; event = (events.Read c.args.name.now) } ∷ []) (sym c.in-Took.ensures.history),
-      subst (λ ns. AreOf {E = Entry} (λ e. e.caller) ns (record { caller = pass_number s.numbers; stamp = o.stamp; event = (events.Read c.args.name.now) } ∷ [])) (sym same) (one-of s.numbers o.stamp (events.Read c.args.name.now) among),
+      record {
+        caller = pass_number s.numbers;
+        stamp = o.stamp;
+        event = (events.Read c.args.name.now);
+      } ∷ [],
+      ap (λ z. z.history) after ∙ ap
+          (λ g. g ++ record {
+            caller = pass_number s.numbers;
+            stamp = o.stamp;
+            event = (events.Read c.args.name.now);
+          } ∷ []) (sym c.in-Took.ensures.history),
+      subst (λ ns. AreOf {E = Entry} (λ e. e.caller) ns
+          (record {
+            caller = pass_number s.numbers;
+            stamp = o.stamp;
+            event = (events.Read c.args.name.now);
+          } ∷ [])) (sym same)
+          (one-of s.numbers o.stamp (events.Read c.args.name.now) among),
     )
 
 pub returns-in-Ok-clause-holds : goal.returns-in-Ok-clause-holds
 returns-in-Ok-clause-holds c =
-    let there : c.args.parts.now.pass ≡ Some c.in-Some.pass = sym c.take.ensures.value ∙ c.in-Some.is in
+    let there : c.args.parts.now.pass ≡ Some c.in-Some.pass =
+    sym c.take.ensures.value ∙ c.in-Some.is in
     let s : SessionState = state_of c.args.parts.now in
     let h = c.in-Took.value.history in
-    let nums : s.numbers ≡ numbers c.in-Some.pass = ap (λ p. elim p [ None ↦ [] | Some x ↦ numbers x ]) there in
-    let saw : s.seen ≡ seen c.in-Some.pass = ap (λ p. elim p [ None ↦ [] | Some x ↦ seen x ]) there in
-    let looked : s.looks ≡ looks c.in-Some.pass = ap (λ p. elim p [ None ↦ [] | Some x ↦ looks x ]) there in
-    let among : is_among (pass_number s.numbers) s.numbers ≡ true = rw (nums) (number-among (numbers c.in-Some.pass) c.in-Some.pass.number c.in-Some.pass.idle.2) in
-    let t = turned s h among (rw (← c.in-Took.ensures.base) c.know_history.ensures) (rw (saw) c.in-Took.ensures.seen) (rw (nums, saw) c.in-Took.ensures.own) in
+    let nums : s.numbers ≡ numbers c.in-Some.pass =
+    ap (λ p. elim p [ None ↦ [] | Some x ↦ numbers x ]) there in
+    let saw : s.seen ≡ seen c.in-Some.pass =
+    ap (λ p. elim p [ None ↦ [] | Some x ↦ seen x ]) there in
+    let looked : s.looks ≡ looks c.in-Some.pass =
+    ap (λ p. elim p [ None ↦ [] | Some x ↦ looks x ]) there in
+    let among : is_among (pass_number s.numbers) s.numbers ≡ true =
+    rw (nums)
+    (number-among (numbers c.in-Some.pass) c.in-Some.pass.number c.in-Some.pass.idle.2) in
+    let t = turned s h among (rw (← c.in-Took.ensures.base) c.know_history.ensures)
+    (rw (saw) c.in-Took.ensures.seen) (rw (nums, saw) c.in-Took.ensures.own) in
     let same : turn_numbers c.in-Took.turn ≡ s.numbers = c.in-Took.ensures.turn.1 ∙ sym nums in
     let o = c.in-Some-begun.opened in
     let b : Begun = txn_begun s o in
-    let stays = t.open_still o (subst (λ q. IfSome q (λ o. IsOpen s.seen (txn_begun s o))) c.in-Some-begun.is c.requires.holds.1) in
+    let stays =
+    t.open_still o
+    (subst (λ q. IfSome q (λ o. IsOpen s.seen (txn_begun s o))) c.in-Some-begun.is
+    c.requires.holds.1) in
     let after = c.in-Ok.ensures.ok b stays.0 refl in
-    let r = read-adds s.base.start h b c.args.name.now stays.0 in
-    (c.give.ensures.pass, rw (c.in-Some-begun.is) (open-at s _ (with_event h b (events.Read c.args.name.now)) _ o (c.give.ensures.seen ∙ ap (λ z. z.history) after) (c.give.ensures.numbers ∙ same) r.0))
+    let r = read-adds s.base.start h b c.args.name.now stays.0 in (
+      c.give.ensures.pass,
+      rw (c.in-Some-begun.is)
+          (open-at s _ (with_event h b (events.Read c.args.name.now)) _ o
+          (c.give.ensures.seen ∙ ap (λ z. z.history) after) (c.give.ensures.numbers ∙ same) r.0),
+    )
 
 pub returns-in-Ok-clause-read : goal.returns-in-Ok-clause-read
 returns-in-Ok-clause-read c =
-    let there : c.args.parts.now.pass ≡ Some c.in-Some.pass = sym c.take.ensures.value ∙ c.in-Some.is in
+    let there : c.args.parts.now.pass ≡ Some c.in-Some.pass =
+    sym c.take.ensures.value ∙ c.in-Some.is in
     let s : SessionState = state_of c.args.parts.now in
     let h = c.in-Took.value.history in
-    let nums : s.numbers ≡ numbers c.in-Some.pass = ap (λ p. elim p [ None ↦ [] | Some x ↦ numbers x ]) there in
-    let saw : s.seen ≡ seen c.in-Some.pass = ap (λ p. elim p [ None ↦ [] | Some x ↦ seen x ]) there in
-    let looked : s.looks ≡ looks c.in-Some.pass = ap (λ p. elim p [ None ↦ [] | Some x ↦ looks x ]) there in
-    let among : is_among (pass_number s.numbers) s.numbers ≡ true = rw (nums) (number-among (numbers c.in-Some.pass) c.in-Some.pass.number c.in-Some.pass.idle.2) in
-    let t = turned s h among (rw (← c.in-Took.ensures.base) c.know_history.ensures) (rw (saw) c.in-Took.ensures.seen) (rw (nums, saw) c.in-Took.ensures.own) in
+    let nums : s.numbers ≡ numbers c.in-Some.pass =
+    ap (λ p. elim p [ None ↦ [] | Some x ↦ numbers x ]) there in
+    let saw : s.seen ≡ seen c.in-Some.pass =
+    ap (λ p. elim p [ None ↦ [] | Some x ↦ seen x ]) there in
+    let looked : s.looks ≡ looks c.in-Some.pass =
+    ap (λ p. elim p [ None ↦ [] | Some x ↦ looks x ]) there in
+    let among : is_among (pass_number s.numbers) s.numbers ≡ true =
+    rw (nums)
+    (number-among (numbers c.in-Some.pass) c.in-Some.pass.number c.in-Some.pass.idle.2) in
+    let t = turned s h among (rw (← c.in-Took.ensures.base) c.know_history.ensures)
+    (rw (saw) c.in-Took.ensures.seen) (rw (nums, saw) c.in-Took.ensures.own) in
     let same : turn_numbers c.in-Took.turn ≡ s.numbers = c.in-Took.ensures.turn.1 ∙ sym nums in
     let o = c.in-Some-begun.opened in
     let b : Begun = txn_begun s o in
-    let stays = t.open_still o (subst (λ q. IfSome q (λ o. IsOpen s.seen (txn_begun s o))) c.in-Some-begun.is c.requires.holds.1) in
-    let after = c.in-Ok.ensures.ok b stays.0 refl in
-    (h, o, t.at, c.in-Some-begun.is, subst (λ z. c.in-Ok.row ≡ row_seen z.start h c.args.name.now o.stamp) c.in-Took.ensures.base c.in-Ok.ensures.row, same-state _ _ _ _ _ s.numbers _ (with_event h b (events.Read c.args.name.now)) _ (s.looks ++ 0 ∷ []) (c.give.ensures.numbers ∙ same) (c.give.ensures.seen ∙ ap (λ z. z.history) after) (c.give.ensures.looks ∙ c.in-Took.ensures.took ∙ ap (λ l. l ++ 0 ∷ []) (sym looked)))
+    let stays =
+    t.open_still o
+    (subst (λ q. IfSome q (λ o. IsOpen s.seen (txn_begun s o))) c.in-Some-begun.is
+    c.requires.holds.1) in
+    let after = c.in-Ok.ensures.ok b stays.0 refl in (
+      h,
+      o,
+      t.at,
+      c.in-Some-begun.is,
+      subst (λ z. c.in-Ok.row ≡ row_seen z.start h c.args.name.now o.stamp) c.in-Took.ensures.base
+          c.in-Ok.ensures.row,
+      same-state _ _ _ _ _ s.numbers _
+          (with_event h b (events.Read c.args.name.now)) _ (s.looks ++ 0 ∷ [])
+          (c.give.ensures.numbers ∙ same) (c.give.ensures.seen ∙ ap (λ z. z.history) after)
+          (c.give.ensures.looks ∙ c.in-Took.ensures.took ∙ ap (λ l. l ++ 0 ∷ []) (sym looked)),
+    )
 
 pub returns-in-Ok-clause-answers : goal.returns-in-Ok-clause-answers
 returns-in-Ok-clause-answers c =
-    let there : c.args.parts.now.pass ≡ Some c.in-Some.pass = sym c.take.ensures.value ∙ c.in-Some.is in
+    let there : c.args.parts.now.pass ≡ Some c.in-Some.pass =
+    sym c.take.ensures.value ∙ c.in-Some.is in
     let s : SessionState = state_of c.args.parts.now in
     let h = c.in-Took.value.history in
-    let nums : s.numbers ≡ numbers c.in-Some.pass = ap (λ p. elim p [ None ↦ [] | Some x ↦ numbers x ]) there in
-    let saw : s.seen ≡ seen c.in-Some.pass = ap (λ p. elim p [ None ↦ [] | Some x ↦ seen x ]) there in
-    let looked : s.looks ≡ looks c.in-Some.pass = ap (λ p. elim p [ None ↦ [] | Some x ↦ looks x ]) there in
-    let among : is_among (pass_number s.numbers) s.numbers ≡ true = rw (nums) (number-among (numbers c.in-Some.pass) c.in-Some.pass.number c.in-Some.pass.idle.2) in
-    let t = turned s h among (rw (← c.in-Took.ensures.base) c.know_history.ensures) (rw (saw) c.in-Took.ensures.seen) (rw (nums, saw) c.in-Took.ensures.own) in
+    let nums : s.numbers ≡ numbers c.in-Some.pass =
+    ap (λ p. elim p [ None ↦ [] | Some x ↦ numbers x ]) there in
+    let saw : s.seen ≡ seen c.in-Some.pass =
+    ap (λ p. elim p [ None ↦ [] | Some x ↦ seen x ]) there in
+    let looked : s.looks ≡ looks c.in-Some.pass =
+    ap (λ p. elim p [ None ↦ [] | Some x ↦ looks x ]) there in
+    let among : is_among (pass_number s.numbers) s.numbers ≡ true =
+    rw (nums)
+    (number-among (numbers c.in-Some.pass) c.in-Some.pass.number c.in-Some.pass.idle.2) in
+    let t = turned s h among (rw (← c.in-Took.ensures.base) c.know_history.ensures)
+    (rw (saw) c.in-Took.ensures.seen) (rw (nums, saw) c.in-Took.ensures.own) in
     let same : turn_numbers c.in-Took.turn ≡ s.numbers = c.in-Took.ensures.turn.1 ∙ sym nums in
     let o = c.in-Some-begun.opened in
     let b : Begun = txn_begun s o in
-    let stays = t.open_still o (subst (λ q. IfSome q (λ o. IsOpen s.seen (txn_begun s o))) c.in-Some-begun.is c.requires.holds.1) in
+    let stays =
+    t.open_still o
+    (subst (λ q. IfSome q (λ o. IsOpen s.seen (txn_begun s o))) c.in-Some-begun.is
+    c.requires.holds.1) in
     let after = c.in-Ok.ensures.ok b stays.0 refl in
-    read-answers s (state_of (record { slot = c.args.parts.now.slot; pass = Some c.give.result; begun = c.args.parts.now.begun })) h o c.args.name.now c.in-Ok.row c.in-Some-begun.is c.in-Some-begun.is refl (c.give.ensures.seen ∙ ap (λ z. z.history) after) stays (subst (λ z. c.in-Ok.row ≡ row_seen z.start h c.args.name.now o.stamp) c.in-Took.ensures.base c.in-Ok.ensures.row)
+    read-answers s
+    (state_of
+    (record {
+      slot = c.args.parts.now.slot;
+      pass = Some c.give.result;
+      begun = c.args.parts.now.begun;
+    })) h o c.args.name.now c.in-Ok.row c.in-Some-begun.is
+    c.in-Some-begun.is refl (c.give.ensures.seen ∙ ap (λ z. z.history) after) stays
+    (subst (λ z. c.in-Ok.row ≡ row_seen z.start h c.args.name.now o.stamp)
+    c.in-Took.ensures.base c.in-Ok.ensures.row)
 
 pub returns-in-Err-clause-holds : goal.returns-in-Err-clause-holds
 returns-in-Err-clause-holds c =
-    let there : c.args.parts.now.pass ≡ Some c.in-Some.pass = sym c.take.ensures.value ∙ c.in-Some.is in
+    let there : c.args.parts.now.pass ≡ Some c.in-Some.pass =
+    sym c.take.ensures.value ∙ c.in-Some.is in
     let s : SessionState = state_of c.args.parts.now in
     let h = c.in-Took.value.history in
-    let nums : s.numbers ≡ numbers c.in-Some.pass = ap (λ p. elim p [ None ↦ [] | Some x ↦ numbers x ]) there in
-    let saw : s.seen ≡ seen c.in-Some.pass = ap (λ p. elim p [ None ↦ [] | Some x ↦ seen x ]) there in
-    let looked : s.looks ≡ looks c.in-Some.pass = ap (λ p. elim p [ None ↦ [] | Some x ↦ looks x ]) there in
-    let among : is_among (pass_number s.numbers) s.numbers ≡ true = rw (nums) (number-among (numbers c.in-Some.pass) c.in-Some.pass.number c.in-Some.pass.idle.2) in
-    let t = turned s h among (rw (← c.in-Took.ensures.base) c.know_history.ensures) (rw (saw) c.in-Took.ensures.seen) (rw (nums, saw) c.in-Took.ensures.own) in
-    let same : turn_numbers c.in-Took.turn ≡ s.numbers = c.in-Took.ensures.turn.1 ∙ sym nums in
-    (c.give-in-Err.ensures.pass, kept-open s _ h _ t (c.give-in-Err.ensures.seen ∙ ap (λ z. z.history) c.in-Err.ensures.err) (c.give-in-Err.ensures.numbers ∙ same) c.args.parts.now.begun c.requires.holds.1)
+    let nums : s.numbers ≡ numbers c.in-Some.pass =
+    ap (λ p. elim p [ None ↦ [] | Some x ↦ numbers x ]) there in
+    let saw : s.seen ≡ seen c.in-Some.pass =
+    ap (λ p. elim p [ None ↦ [] | Some x ↦ seen x ]) there in
+    let looked : s.looks ≡ looks c.in-Some.pass =
+    ap (λ p. elim p [ None ↦ [] | Some x ↦ looks x ]) there in
+    let among : is_among (pass_number s.numbers) s.numbers ≡ true =
+    rw (nums)
+    (number-among (numbers c.in-Some.pass) c.in-Some.pass.number c.in-Some.pass.idle.2) in
+    let t = turned s h among (rw (← c.in-Took.ensures.base) c.know_history.ensures)
+    (rw (saw) c.in-Took.ensures.seen) (rw (nums, saw) c.in-Took.ensures.own) in
+    let same : turn_numbers c.in-Took.turn ≡ s.numbers = c.in-Took.ensures.turn.1 ∙ sym nums in (
+      c.give-in-Err.ensures.pass,
+      kept-open s _ h _ t (c.give-in-Err.ensures.seen ∙ ap (λ z. z.history) c.in-Err.ensures.err)
+          (c.give-in-Err.ensures.numbers ∙ same) c.args.parts.now.begun c.requires.holds.1,
+    )
 
 pub returns-in-Err-clause-kept : goal.returns-in-Err-clause-kept
 returns-in-Err-clause-kept c =
-    let there : c.args.parts.now.pass ≡ Some c.in-Some.pass = sym c.take.ensures.value ∙ c.in-Some.is in
+    let there : c.args.parts.now.pass ≡ Some c.in-Some.pass =
+    sym c.take.ensures.value ∙ c.in-Some.is in
     let s : SessionState = state_of c.args.parts.now in
     let h = c.in-Took.value.history in
-    let nums : s.numbers ≡ numbers c.in-Some.pass = ap (λ p. elim p [ None ↦ [] | Some x ↦ numbers x ]) there in
-    let saw : s.seen ≡ seen c.in-Some.pass = ap (λ p. elim p [ None ↦ [] | Some x ↦ seen x ]) there in
-    let looked : s.looks ≡ looks c.in-Some.pass = ap (λ p. elim p [ None ↦ [] | Some x ↦ looks x ]) there in
-    let among : is_among (pass_number s.numbers) s.numbers ≡ true = rw (nums) (number-among (numbers c.in-Some.pass) c.in-Some.pass.number c.in-Some.pass.idle.2) in
-    let t = turned s h among (rw (← c.in-Took.ensures.base) c.know_history.ensures) (rw (saw) c.in-Took.ensures.seen) (rw (nums, saw) c.in-Took.ensures.own) in
+    let nums : s.numbers ≡ numbers c.in-Some.pass =
+    ap (λ p. elim p [ None ↦ [] | Some x ↦ numbers x ]) there in
+    let saw : s.seen ≡ seen c.in-Some.pass =
+    ap (λ p. elim p [ None ↦ [] | Some x ↦ seen x ]) there in
+    let looked : s.looks ≡ looks c.in-Some.pass =
+    ap (λ p. elim p [ None ↦ [] | Some x ↦ looks x ]) there in
+    let among : is_among (pass_number s.numbers) s.numbers ≡ true =
+    rw (nums)
+    (number-among (numbers c.in-Some.pass) c.in-Some.pass.number c.in-Some.pass.idle.2) in
+    let t = turned s h among (rw (← c.in-Took.ensures.base) c.know_history.ensures)
+    (rw (saw) c.in-Took.ensures.seen) (rw (nums, saw) c.in-Took.ensures.own) in
     let same : turn_numbers c.in-Took.turn ≡ s.numbers = c.in-Took.ensures.turn.1 ∙ sym nums in
     let o = c.in-Some-begun.opened in
     let b : Begun = txn_begun s o in
-    let stays = t.open_still o (subst (λ q. IfSome q (λ o. IsOpen s.seen (txn_begun s o))) c.in-Some-begun.is c.requires.holds.1) in
-    kept-answers s (state_of (record { slot = c.args.parts.now.slot; pass = Some c.give-in-Err.result; begun = c.args.parts.now.begun })) h o c.in-Some-begun.is c.in-Some-begun.is refl (c.give-in-Err.ensures.seen ∙ ap (λ z. z.history) c.in-Err.ensures.err) stays
+    let stays =
+    t.open_still o
+    (subst (λ q. IfSome q (λ o. IsOpen s.seen (txn_begun s o))) c.in-Some-begun.is
+    c.requires.holds.1) in
+    kept-answers s
+    (state_of
+    (record {
+      slot = c.args.parts.now.slot;
+      pass = Some c.give-in-Err.result;
+      begun = c.args.parts.now.begun;
+    })) h o c.in-Some-begun.is c.in-Some-begun.is refl
+    (c.give-in-Err.ensures.seen ∙ ap (λ z. z.history) c.in-Err.ensures.err) stays

@@ -21,4 +21,6 @@ exchange-requires g c = let took = c.load.ensures.2 in (search rules, (_, slot_o
 
 pub returns-clause-own : goal.returns-clause-own
 returns-clause-own g c = let took = c.load.ensures.2 in
-    took_own g.V.Kept.history g.V.Kept.caller c.args.pass.seat.me.0 _ _ _ _ _ _ (c.compare_exchange-holder.ensures.2.0 c.if-holder-ne0.false) took.2 took.1 c.exchange.ensures.2 c.in-Some.is
+    took_own g.V.Kept.history g.V.Kept.caller c.args.pass.seat.me.0 _ _ _ _ _ _
+    (c.compare_exchange-holder.ensures.2.0 c.if-holder-ne0.false) took.2 took.1
+    c.exchange.ensures.2 c.in-Some.is
