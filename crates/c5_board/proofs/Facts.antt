@@ -1,9 +1,11 @@
 -- What is used of a planned log.
 use Rattle.std.proofs.Common.{ℕ, ◌≤◌}
 use Rattle.c5_definitions.specs.WriteNumbers.{names_in}
-use Rattle.c5_definitions.specs.NumberLaws.{RowsAreNumbered, PredecessorsAreLast, PlacesEnd, NumbersAreOwned}
+use Rattle.c5_definitions.specs.NumberLaws.{RowsAreNumbered, PredecessorsAreLast, PlacesEnd}
+use Rattle.c5_definitions.specs.NumberLaws.{NumbersAreOwned}
 use Rattle.c5_definitions.specs.IndexLaws.{BucketsSuffice, RowsAreIndexed}
-use Rattle.c5_definitions.proofs.NumberLemmas.{rows_are_numbered, predecessors_are_last, places_end, numbers_are_owned}
+use Rattle.c5_definitions.proofs.NumberLemmas.{rows_are_numbered, predecessors_are_last, places_end}
+use Rattle.c5_definitions.proofs.NumberLemmas.{numbers_are_owned}
 use Rattle.c5_definitions.proofs.IndexLemmas.{buckets_suffice, rows_are_indexed}
 use Rattle.c5_frames.specs.Log.{Log}
 use Rattle.c5_plan.specs.Sizes.{IsPlanned}
@@ -20,7 +22,8 @@ pub record Facts (log : Log) (workers : ℕ) : Type 0 where
   pub buckets : BucketsSuffice (writes_in log)
   pub index : RowsAreIndexed (names_in log.txns)
 
-pub facts : (log : Log) (workers : ℕ) → IsPlanned log → 1 ≤ workers → workers ≤ 16 → Facts log workers
+pub facts : (log : Log) (workers : ℕ) → IsPlanned log → 1 ≤ workers → workers ≤ 16
+    → Facts log workers
 facts log workers planned some few = record {
   planned = planned;
   some = some;

@@ -13,3 +13,4 @@ pub mod PassLemmas
 pub mod NewBoard
 pub mod BucketLemmas
 pub mod FirstWrite
+pub mod LoadLemmas

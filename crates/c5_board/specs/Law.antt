@@ -1,6 +1,8 @@
 -- The law: what is true in every state that the rule allows. The installed numbers are those of all
 -- views together.
-use Rattle.std.specs.Prelude.{◌≡◌, ◌≢◌, ◌≤◌, ◌<◌, ◌+◌, ◌↔◌, ℕ, Bool, true, length, All}
+use Rattle.std.specs.Prelude.{◌≡◌, ◌≢◌, ◌≤◌, ◌<◌, ◌+◌, ◌↔◌, ◌==◌, ℕ, Bool, true, length, All}
+use Rattle.std.specs.Prelude.{nat_eq}
+use Rattle.std.specs.List.{IsDistinct, count_by}
 use mathlib.Core.Option.{some}
 use lib.ListN.{get_elem?}
 use Rattle.atomic_table.specs.Table.{State}
@@ -49,8 +51,18 @@ module _ (log : Log) (workers : ℕ) (s : Boarded) where
     pub same_log : v.log ≡ log
     pub same_workers : v.workers ≡ workers
 
+  -- w is listed once, by the view that holds the role of its owner, and by no other
+  pub record IsInstalledOnce (w : ℕ) : Type 0 where
+    pub seat : ℕ
+    pub view : Known
+    pub at : HasView s seat view
+    pub role : is_among (owner_of workers w) view.roles ≡ true
+    pub listed : count_by (λ n. w == n) view.installed ≡ 1
+    pub only : (other : ℕ) (v : Known) → HasView s other v → is_among w v.installed ≡ true
+        → other ≡ seat
+
   -- 1. each role is held by exactly one view, and a view's installed numbers are writes that its
-  -- roles own; no other view has them. They are a set: the rule doesn't say how often one is listed
+  -- roles own, each listed once; no other view has them
   pub record RolesAreHeld : Type 0 where
     pub worker : (i : ℕ) → IsWorker workers i → IsHeldByOne s (λ v. is_among i v.roles)
     pub snapshot : IsHeldByOne s (λ v. v.snapshot)
@@ -59,6 +71,7 @@ module _ (log : Log) (workers : ℕ) (s : Boarded) where
         → IsWrite (names_in log.txns) w × (is_among (owner_of workers w) v.roles ≡ true)
     pub once : (a b : ℕ) (v u : Known) (w : ℕ) → HasView s a v → HasView s b u
         → is_among w v.installed ≡ true → is_among w u.installed ≡ true → a ≡ b
+    pub distinct : (seat : ℕ) (v : Known) → HasView s seat v → IsDistinct nat_eq v.installed
 
   -- 2. a row's head is 0 or a number of the row, whose numbers up to it are the installed ones; all
   -- other heads are 0
@@ -128,7 +141,7 @@ module _ (log : Log) (workers : ℕ) (s : Boarded) where
     pub all : (w : ℕ) → IsFirstWrite (names_in log.txns) w → w ≤ the_words.scheduled → w ≤ v.indexed
 
   -- the ten parts of the rule, and what follows: every write up to the end of the visible place is
-  -- installed
+  -- installed, once
   pub record IsLawful : Type 0 where
     pub of_board : (seat : ℕ) (v : Known) → HasView s seat v → IsOfBoard v
     pub roles : RolesAreHeld
@@ -146,6 +159,7 @@ module _ (log : Log) (workers : ℕ) (s : Boarded) where
     pub buckets : (seat : ℕ) (v : Known) (j : ℕ) → HasView s seat v → v.scheduler ≡ true
         → j < buckets_in log → the_words.bucket j ≡ bucket_up_to (names_in log.txns) v.indexed j
     pub all_visible : (w : ℕ) → 1 ≤ w → w ≤ end_of log.txns the_words.visible → IsDone s w
+    pub visible_once : (w : ℕ) → 1 ≤ w → w ≤ end_of log.txns the_words.visible → IsInstalledOnce w
 
 -- a board has 1 to 16 workers
 abbrev pub IsWorkerCount : ℕ → Type 0

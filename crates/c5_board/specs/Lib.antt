@@ -3,6 +3,7 @@ pub mod Words
 pub mod Boards
 pub mod Parts
 pub mod Passes
+pub mod Loads
 pub mod Rule
 pub mod Views
 pub mod Tells

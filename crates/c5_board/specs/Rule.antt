@@ -1,5 +1,7 @@
 -- The rule of the board: what is true between any two steps.
 use Rattle.std.specs.Prelude.{◌≡◌, ◌≢◌, ◌≤◌, ◌<◌, ◌+◌, ℕ, true, List, length, slice_index, All}
+use Rattle.std.specs.Prelude.{nat_eq}
+use Rattle.std.specs.List.{IsDistinct}
 use mathlib.Core.Option.{some}
 use lib.ListN.{get_elem?}
 use Rattle.atomic_table.specs.Table.{State}
@@ -133,6 +135,7 @@ module _ (log : Log) (workers : ℕ) where
         × (is_among (owner_of workers w) v.roles ≡ true)
     pub all_installed : (w : ℕ) → IsInstalled x w → is_among (owner_of workers w) v.roles ≡ true
         → is_among w v.installed ≡ true
+    pub once : IsDistinct nat_eq v.installed
     pub count : length v.floors ≡ workers
     pub floors : (i : ℕ) → IsWorker workers i → FloorFits x v.floors i
     pub own_floors : (i : ℕ) → is_among i v.roles ≡ true → number_of v.floors i ≡ x.progress i

@@ -1,7 +1,7 @@
 //! Where the path of a name ends.
 
 /// Where the path of a name ends.
-#[derive(Clone, Copy, Debug, PartialEq, Eq)]
+#[derive(Clone, Copy, PartialEq, Eq)]
 pub enum PathEnd {
     /// At the row of the name, which has this number.
     Row(u32),

@@ -14,6 +14,7 @@ use Rattle.c5_board.specs.declared.known.Look.TheVariants.{LoadHead, ExchangeHea
 use Rattle.c5_board.specs.declared.known.Look.TheVariants.{LoadVisible, LoadRecord, LoadScheduled}
 use Rattle.c5_board.specs.declared.known.Look.TheVariants.{LoadBucket}
 use Rattle.c5_board.specs.Boards.{Pass}
+use Rattle.c5_board.specs.Loads.{AreLoads}
 
 -- a load that a read makes: of the visible word, which found this place, or, whatever it found, of
 -- the head of this row, or of the record of this write
@@ -81,11 +82,12 @@ abbrev pub loads_of_rows : List RowName → ℕ → List Wanted
 loads_of_rows names zero = []
 loads_of_rows names (suc n) = loads_of_rows names n ++ loads_of_write names (suc n)
 
--- nothing but looks was added, and what is scheduled hasn't fallen
+-- nothing but loads was added, and what is scheduled hasn't fallen
 pub record OnlyLooks (old new : Pass) : Type 0 where
   pub more : List Look
   pub pass : new ≡ record old { scheduled = new.scheduled; looks = old.looks ++ more }
   pub rises : old.scheduled ≤ new.scheduled
+  pub loads : AreLoads more
 
 -- the loads of the heads of these names are among the looks that were added
 pub record LooksForNames (old new : Pass) (names : List RowName) (place : ℕ) : Type 0 where

@@ -29,7 +29,7 @@ impl<'s> Model for ReadSession<'s> {
     ghost view = { λ s. record { session = s.session; start = s.start.now } };
 }
 
-ghost use Rattle.std.specs.Prelude.{◌≡◌, ◌≤◌, IfOk, OnOk, length};
+ghost use Rattle.std.specs.Prelude.{◌≡◌, ◌≤◌, IfOk, OnOk, length, true};
 ghost use Rattle.c5_definitions.specs.Replies.{reply_at};
 ghost use Rattle.c5_reads.specs.Sessions.{began};
 ghost use Rattle.c5_reads.specs.Looks.{OnlyLooks, LooksForRead};
@@ -49,15 +49,16 @@ impl<'s> ReadSession<'s> {
         ReadSession { session, start }
     }
 
-    /// Begins to read: loads the visible place, which is at least the one that the pass knew. All
-    /// answers at this view are of the rows after that many transactions, however far the log is
-    /// installed meanwhile.
+    /// Begins to read: loads the visible place, which is at least the one that the pass knew, and
+    /// that one if the pass has the snapshot role. All answers at this view are of the rows after
+    /// that many transactions, however far the log is installed meanwhile.
     pub fn begin(&mut self, board: &Board<'_>, pass: &mut BoardPass) -> View
         requires pass { pass.old.board ≡ board.now }
         ensures session { self.new ≡ self.old }
         ensures pass { pass.new ≡ began pass.old result.place }
         ensures not_below { pass.old.place ≤ result.place }
         ensures within { result.place ≤ length board.now.log.txns }
+        ensures own { pass.old.snapshot ≡ true → result.place ≡ pass.old.place }
     {
         View {
             place: board.load_visible(pass),

@@ -215,6 +215,5 @@ fn a_session_reads_at_its_views(rt: HostRuntime) -> Result<(), Fail> {
     assert!(rt; answers(&session, alloc, &board, &mut reader, &after, 10, 23)?);
     assert!(rt; has_rows(alloc, &board, &mut reader, &start, 0, 2)?);
     assert!(rt; has_rows(alloc, &board, &mut reader, &start, 1, 10)?);
-    last_write_law();
     Ok(())
 }

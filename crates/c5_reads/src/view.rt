@@ -1,7 +1,7 @@
 //! What a session reads.
 
 /// The rows after so many transactions: a place that was visible when the session began to read.
-#[derive(Clone, Copy, Debug, PartialEq, Eq)]
+#[derive(Clone, Copy, PartialEq, Eq)]
 pub struct View {
     /// The number of transactions.
     pub place: u32,

@@ -7,7 +7,7 @@ use c5_rows::NoMemory;
 use std::alloc::{AllocError, AllocFailed};
 
 /// Why a log is not replayed.
-#[derive(Clone, Copy, Debug, PartialEq, Eq)]
+#[derive(Clone, Copy, PartialEq, Eq)]
 pub enum ReplayFault {
     /// The log writes more than 65,536 rows.
     Rows,

@@ -4,6 +4,7 @@ use Rattle.c5_definitions.specs.WriteNumbers.{IsFirstWrite}
 use Rattle.c5_definitions.specs.WriteNumbers.{row_count}
 use Rattle.c5_board.specs.declared.known.Look.{Look}
 use Rattle.c5_board.specs.Boards.{Board, Pass, names, write_count}
+use Rattle.c5_board.specs.Loads.{AreLoads}
 use Rattle.c5_workers.specs.declared.scheduler.Scheduler.{Scheduler}
 use Rattle.c5_workers.specs.declared.schedule_turn.ScheduleTurn.{ScheduleTurn}
 use Rattle.c5_workers.specs.declared.schedule_turn.ScheduleTurn.TheVariants as turns
@@ -60,7 +61,7 @@ abbrev pub IsEnd : Pass → ScheduleEnd → Type 0
 IsEnd p ends.Done = (p.scheduled ≡ write_count p.board) × (row_count (names p.board) ≤ max_rows)
 IsEnd p ends.Rows = IsFullOfRows p × (max_rows < row_count (names p.board))
 
--- only what the scheduler role knows has changed, and looks were added at the end
+-- only what the scheduler role knows has changed, and loads were added at the end
 pub record OnlySchedules (old new : Pass) : Type 0 where
   pub rest : new ≡ record old {
     written = new.written;
@@ -71,6 +72,7 @@ pub record OnlySchedules (old new : Pass) : Type 0 where
   pub scheduled : old.scheduled ≤ new.scheduled
   pub more : List Look
   pub looks : new.looks ≡ old.looks ++ more
+  pub loads : AreLoads more
 
 pub record SchedulesAll (old new : Pass) (end : ScheduleEnd) : Type 0 where
   pub only : OnlySchedules old new

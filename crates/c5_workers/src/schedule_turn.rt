@@ -1,7 +1,7 @@
 //! What turns of the scheduler come to.
 
 /// What a turn of the scheduler did.
-#[derive(Clone, Copy, Debug, PartialEq, Eq)]
+#[derive(Clone, Copy, PartialEq, Eq)]
 pub enum ScheduleTurn {
     /// Write `w` is scheduled.
     Did { w: u32 },
@@ -12,7 +12,7 @@ pub enum ScheduleTurn {
 }
 
 /// How scheduling a whole log ends.
-#[derive(Clone, Copy, Debug, PartialEq, Eq)]
+#[derive(Clone, Copy, PartialEq, Eq)]
 pub enum ScheduleEnd {
     /// Each write of the log is scheduled.
     Done,

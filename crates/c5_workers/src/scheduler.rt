@@ -14,7 +14,7 @@ use c5_rows::{MAX_ROWS, NoMemory};
 use std::alloc::Global;
 
 /// Schedules the writes of a log, one after the other.
-#[derive(Debug, Drop)]
+#[derive(Drop)]
 pub struct Scheduler {
     // For each row, at the place of its first write, its last number that is scheduled.
     last: Vec<u32>,

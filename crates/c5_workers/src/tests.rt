@@ -1,5 +1,6 @@
 ghost use Rattle.std.specs.Prelude.{◌≡◌, ◌≤◌, [], ◌∷◌, true, length, IfOk};
 ghost use Rattle.c5_board.specs.Boards.{write_count};
+ghost use Rattle.c5_workers.specs.Schedules.{FitsSchedule};
 ghost use Rattle.c5_workers.specs.Work.{FitsWorker};
 
 use super::*;
@@ -168,14 +169,53 @@ fn a_worker_tries_again_what_it_put_off(rt: HostRuntime) -> Result<(), Fail> {
     Ok(())
 }
 
+// The pass of worker 1 with its worker, and what is left, with the scheduler.
+#[derive(Drop)]
+struct Waiting {
+    rest: BoardPass,
+    scheduler: Scheduler,
+    first: BoardPass,
+    one: Worker,
+}
+
+fn split_first(alloc: Global, board: &Board<'_>, pass: BoardPass) -> Result<Waiting, NoMemory>
+    requires pass { pass.board ≡ board.now }
+    requires workers { board.now.workers ≡ 2 }
+    requires roles { pass.roles ≡ 1 ∷ 2 ∷ [] }
+    requires installed { pass.installed ≡ [] }
+    requires scheduler { pass.scheduler ≡ true }
+    requires none { (pass.scheduled ≡ 0) × (pass.written ≡ 0) × (pass.indexed ≡ 0) }
+    ensures first { IfOk result (λ parts. parts.first.board ≡ board.now) }
+    ensures one { IfOk result (λ parts. FitsWorker parts.one parts.first) }
+    ensures rest { IfOk result (λ parts. parts.rest.board ≡ board.now) }
+    ensures scheduler { IfOk result (λ parts. FitsSchedule parts.scheduler parts.rest) }
+{
+    let one = Worker::new(alloc, 1, 2)?;
+    let scheduler = Scheduler::new(alloc, board)?;
+    let (rest, first) = board.split_worker(pass, 1);
+    Ok(Waiting {
+        rest,
+        scheduler,
+        first,
+        one,
+    })
+}
+
 #[test]
 fn a_worker_waits_for_the_scheduler(rt: HostRuntime) -> Result<(), Fail> {
     let log = log(rt.alloc(), ONE_ROW)?;
     let plan = plan(&log).ok().ok_or("a plan")?;
     let (board, pass) = Board::new(rt.alloc(), &plan, 2)?;
-    let mut parts = split(rt.alloc(), &board, pass)?;
+    let mut parts = split_first(rt.alloc(), &board, pass)?;
     let waits = WorkTurn::NotYet { scheduled: 0 };
     assert!(rt; turn(&board, &mut parts.first, &mut parts.one) == waits);
+    let scheduled = parts.scheduler.turn(&board, &mut parts.rest);
+    assert!(rt; scheduled == ScheduleTurn::Did { w: 1 });
+    let installs = WorkTurn::Did {
+        installed: 1,
+        put_off: 0,
+    };
+    assert!(rt; turn(&board, &mut parts.first, &mut parts.one) == installs);
     Ok(())
 }
 

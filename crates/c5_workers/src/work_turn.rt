@@ -1,7 +1,7 @@
 //! What a turn of a worker comes to.
 
 /// What a turn of a worker did.
-#[derive(Clone, Copy, Debug, PartialEq, Eq)]
+#[derive(Clone, Copy, PartialEq, Eq)]
 pub enum WorkTurn {
     /// It tried writes: this many are installed now, and `put_off` is 1 if a new one was put off,
     /// else 0.

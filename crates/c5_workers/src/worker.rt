@@ -21,7 +21,7 @@ use c5_rows::{MAX_PUT_OFF, NoMemory};
 use std::alloc::Global;
 
 /// Installs the writes that one worker owns.
-#[derive(Debug, Drop)]
+#[derive(Drop)]
 pub struct Worker {
     i: u32,
     workers: u32,

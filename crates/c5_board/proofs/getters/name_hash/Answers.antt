@@ -7,5 +7,7 @@ pub returns : goal.returns
 unfolding fnv_1a
 returns c =
     c.loop-byte.invariant
-    ∙ (ap (fold fnv_round c.hash_round-hash.result) (take_all c.loop-byte.byte-index c.bytes-byte-items.result.now (omega (arith, c.loop-byte-test.false)) ∙ c.bytes-byte-items.ensures.value)
+    ∙ (ap (fold fnv_round c.hash_round-hash.result)
+    (take_all c.loop-byte.byte-index c.bytes-byte-items.result.now
+    (omega (arith, c.loop-byte-test.false)) ∙ c.bytes-byte-items.ensures.value)
     ∙ ap (λ (h : ℕ). fold fnv_round h c.args.name.now.key) c.hash_round-hash.ensures)

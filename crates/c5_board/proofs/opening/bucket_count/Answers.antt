@@ -5,7 +5,12 @@ use Rattle.c5_board.proofs.BucketLemmas.{count-found, power-more}
 use Rattle.c5_board.proofs.opening.bucket_count.Goals as goal
 
 pub loop-buckets-init : goal.loop-buckets-init
-loop-buckets-init c = record { power = (1, refl, omega arith, (λ j some below. absurd (omega arith))); two = omega arith; few = omega arith }
+loop-buckets-init c =
+    record {
+      power = (1, refl, omega arith, (λ j some below. absurd (omega arith)));
+      two = omega arith;
+      few = omega arith;
+    }
 
 pub loop-buckets-preserved : goal.loop-buckets-preserved
 loop-buckets-preserved c =
@@ -25,4 +30,5 @@ loop-buckets-preserved c =
     }
 
 pub returns : goal.returns
-returns c = let p = c.loop-buckets.invariant.power in p.1 ∙ count-found c.args.writes p.0 p.2 (omega (arith, p.1)) p.3
+returns c = let p = c.loop-buckets.invariant.power in
+    p.1 ∙ count-found c.args.writes p.0 p.2 (omega (arith, p.1)) p.3

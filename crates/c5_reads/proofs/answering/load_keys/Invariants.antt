@@ -10,7 +10,11 @@ use Rattle.c5_reads.proofs.answering.load_keys.Given as goal
 abbrev pub invariant-loop-key : goal.invariant-loop-key
 invariant-loop-key l = record {
   pass : OnlyLooks l.fn.pass l.pass;
-  looks : (new : Pass) → LooksForNames l.pass new (table_names l.table (drop l.key-index l.keys)) l.origin.place → LooksForNames l.fn.pass new (table_names l.table l.keys) l.origin.place;
-  rows : with_rows (state_after l.origin.start.now l.board.log.txns l.origin.place) (table_names l.table (drop l.key-index l.keys)) l.rows
-      ≡ with_rows (state_after l.origin.start.now l.board.log.txns l.origin.place) (table_names l.table l.keys) l.fn.rows;
+  looks : (new : Pass) → LooksForNames l.pass new
+      (table_names l.table (drop l.key-index l.keys)) l.origin.place
+      → LooksForNames l.fn.pass new (table_names l.table l.keys) l.origin.place;
+  rows : with_rows (state_after l.origin.start.now l.board.log.txns l.origin.place)
+      (table_names l.table (drop l.key-index l.keys)) l.rows
+      ≡ with_rows (state_after l.origin.start.now l.board.log.txns l.origin.place)
+      (table_names l.table l.keys) l.fn.rows;
 }

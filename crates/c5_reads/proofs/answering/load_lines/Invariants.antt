@@ -11,7 +11,11 @@ use Rattle.c5_reads.proofs.answering.load_lines.Given as goal
 abbrev pub invariant-loop-line : goal.invariant-loop-line
 invariant-loop-line l = record {
   pass : OnlyLooks l.fn.pass l.pass;
-  looks : (new : Pass) → LooksForNames l.pass new (asked_names (drop l.line-index l.lines)) l.origin.place → LooksForNames l.fn.pass new (asked_names l.lines) l.origin.place;
-  rows : with_rows (state_after l.origin.start.now l.board.log.txns l.origin.place) (asked_names (drop l.line-index l.lines)) l.rows
-      ≡ with_rows (state_after l.origin.start.now l.board.log.txns l.origin.place) (asked_names l.lines) empty;
+  looks : (new : Pass) → LooksForNames l.pass new
+      (asked_names (drop l.line-index l.lines)) l.origin.place
+      → LooksForNames l.fn.pass new (asked_names l.lines) l.origin.place;
+  rows : with_rows (state_after l.origin.start.now l.board.log.txns l.origin.place)
+      (asked_names (drop l.line-index l.lines)) l.rows
+      ≡ with_rows (state_after l.origin.start.now l.board.log.txns l.origin.place)
+      (asked_names l.lines) empty;
 }

@@ -8,5 +8,6 @@ abbrev pub invariant-loop-before : goal.invariant-loop-before
 invariant-loop-before l = record {
   pass : OnlyLooks l.fn.pass l.pass;
   looks : LooksForWrites l.fn.pass l.pass l.before;
-  filled : IsFilled (names l.board) l.start (state_after l.start l.board.log.txns l.place) l.rows l.before;
+  filled : IsFilled (names l.board) l.start
+      (state_after l.start l.board.log.txns l.place) l.rows l.before;
 }

@@ -9,5 +9,8 @@ abbrev pub invariant-loop-read : goal.invariant-loop-read
 invariant-loop-read g l = record {
   pass : IsPassWith l.shared.board.now [] l.pass;
   session : l.session ≡ record { session = l.number; start = l.shared.start.now };
-  answered : (done : List ReadParts) × (done ++ reads_of_session (drop l.read-index l.shared.reads.now) l.number ≡ reads_of_session l.shared.reads.now l.number) × HasAnswered l.pass l.shared.start.now done l.replies.items;
+  answered : (done : List ReadParts)
+      × (done ++ reads_of_session (drop l.read-index l.shared.reads.now) l.number
+      ≡ reads_of_session l.shared.reads.now l.number)
+      × HasAnswered l.pass l.shared.start.now done l.replies.items;
 }

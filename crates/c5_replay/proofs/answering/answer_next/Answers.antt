@@ -18,9 +18,14 @@ returns-clause-answered c = λ done h.
     let e = c.in_ok-reply.ensures {u = tt} in
     let board = c.requires.pass in
     let began_so = c.begin-view.ensures.pass in
-    let is : c.in_ok-reply.reply ≡ reply_at start p.board.log.txns read place = e.reply ∙ (λ t. reply_at (c.begin-view.ensures.session t).start (sym board t).log.txns read place) in
-    let within : place ≤ length p.board.log.txns = subst (λ (b : Board). place ≤ length b.log.txns) (sym board) c.begin-view.ensures.within in
+    let is : c.in_ok-reply.reply ≡ reply_at start p.board.log.txns read place =
+    e.reply ∙
+    (λ t. reply_at (c.begin-view.ensures.session t).start (sym board t).log.txns read place) in
+    let within : place ≤ length p.board.log.txns =
+    subst (λ (b : Board). place ≤ length b.log.txns) (sym board) c.begin-view.ensures.within in
     let only = subst (λ (x : Pass). OnlyLooks x q) began_so e.pass in
     let looks = subst (λ (x : Pass). LooksForRead x q read place) began_so e.looks in
-    subst (λ (l : List Reply). HasAnswered q start (done ++ read ∷ []) l) (sym (c.in_ok-push.ensures {u = tt}).items)
-    (answered-more p q start done read c.args.replies.now.items c.in_ok-reply.reply place h c.begin-view.ensures.not_below within is only looks)
+    subst (λ (l : List Reply). HasAnswered q start (done ++ read ∷ []) l)
+    (sym (c.in_ok-push.ensures {u = tt}).items)
+    (answered-more p q start done read c.args.replies.now.items c.in_ok-reply.reply place h
+    c.begin-view.ensures.not_below within is only looks)

@@ -12,7 +12,12 @@ returns-clause-joined c =
     record {
       worked = e.worked;
       snapshot_role = e.joined.snapshot_kept (d.joined.snapshot_kept b.role);
-      scheduler_role = e.joined.scheduler_kept (d.joined.scheduler_kept (b.joined.scheduler_kept a.role));
-      all_scheduled = (let w = a.scheduled in let x = b.joined.scheduled_more in let y = d.joined.scheduled_more in let z = e.joined.scheduled_more in omega arith);
-      replied = replied-later c.in_ok-pass-3.pass c.in_ok-pass-4.pass c.args.shared.now.start.now c.args.shared.now.reads.now max_sessions c.join_sessions.new.replies d.replied e.joined;
+      scheduler_role = e.joined.scheduler_kept
+          (d.joined.scheduler_kept (b.joined.scheduler_kept a.role));
+      all_scheduled =
+          (let w = a.scheduled in let x = b.joined.scheduled_more in
+          let y = d.joined.scheduled_more in let z = e.joined.scheduled_more in omega arith);
+      replied =
+          replied-later c.in_ok-pass-3.pass c.in_ok-pass-4.pass c.args.shared.now.start.now
+          c.args.shared.now.reads.now max_sessions c.join_sessions.new.replies d.replied e.joined;
     }

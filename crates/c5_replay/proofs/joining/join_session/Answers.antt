@@ -13,9 +13,16 @@ pub returns-clause-replied : goal.returns-clause-replied
 returns-clause-replied c =
     let S = c.args.shared.now.start.now in
     let R = c.args.shared.now.reads.now in
-    let h = ended-as c.args.shared.now.board.now S R (roles.Session c.args.session) _ _ c.in-Session.is (c.in_ok-own.ensures {u = tt}).end in
+    let h = ended-as c.args.shared.now.board.now S R
+    (roles.Session c.args.session) _ _ c.in-Session.is (c.in_ok-own.ensures {u = tt}).end in
     let number : c.in-Session.session ≡ c.args.session = ap number_in h.0 in
-    let own = subst (λ (n : ℕ). HasAnswered c.in-Session.own S (reads_of_session R n) c.in-Session.more.items) number h.1.1 in
-    let next : (c.args.session - 1) + 1 ≡ c.args.session = (let some = c.requires.some in omega arith) in
-    subst (λ (z : Pass × List Reply). HaveReplied z.0 S R c.args.session z.1) (λ t. (sym c.join.ensures t, sym (c.in_ok-append-in-Session.ensures {u = tt}) t))
-    (replied-more c.args.pass c.in-Session.own S R (c.args.session - 1) c.args.session c.args.replies.now c.in-Session.more.items c.requires.replied next (h.1.0.of_board ∙ sym c.requires.pass.of_board) own)
+    let own =
+    subst (λ (n : ℕ). HasAnswered c.in-Session.own S
+    (reads_of_session R n) c.in-Session.more.items) number h.1.1 in
+    let next : (c.args.session - 1) + 1 ≡ c.args.session =
+    (let some = c.requires.some in omega arith) in
+    subst (λ (z : Pass × List Reply). HaveReplied z.0 S R c.args.session z.1)
+    (λ t. (sym c.join.ensures t, sym (c.in_ok-append-in-Session.ensures {u = tt}) t))
+    (replied-more c.args.pass c.in-Session.own S R
+    (c.args.session - 1) c.args.session c.args.replies.now c.in-Session.more.items
+    c.requires.replied next (h.1.0.of_board ∙ sym c.requires.pass.of_board) own)

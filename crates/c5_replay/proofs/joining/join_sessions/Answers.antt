@@ -12,8 +12,12 @@ use Rattle.c5_replay.proofs.joining.join_sessions.Goals as goal
 
 pub join_session-requires-clause-next : goal.join_session-requires-clause-next
 join_session-requires-clause-next c =
-    let some : 1 ≤ max_sessions - c.loop-before.before = (let t = c.loop-before-test.true in omega arith) in
-    (next-ended c.args.shared.now.board.now c.args.shared.now.start.now c.args.shared.now.reads.now (λ x. roles.Session x) (c.loop-before.before + 1) (max_sessions - c.loop-before.before) (worker_roles c.args.shared.now.board.now.workers) c.loop-before.ends.items some c.loop-before.invariant.ends).0
+    let some : 1 ≤ max_sessions - c.loop-before.before =
+    (let t = c.loop-before-test.true in omega arith) in
+    (next-ended c.args.shared.now.board.now c.args.shared.now.start.now c.args.shared.now.reads.now
+    (λ x. roles.Session x) (c.loop-before.before + 1) (max_sessions - c.loop-before.before)
+    (worker_roles c.args.shared.now.board.now.workers) c.loop-before.ends.items some
+    c.loop-before.invariant.ends).0
 
 pub loop-before-preserved : goal.loop-before-preserved
 loop-before-preserved c =
@@ -24,10 +28,17 @@ loop-before-preserved c =
     let some : 1 ≤ max_sessions - k = (let t = c.loop-before-test.true in omega arith) in
     let less : (max_sessions - k) - 1 ≡ max_sessions - (k + 1) = omega arith in
     let e = c.in_ok-pass.ensures {u = tt} in
-    let ends = (next-ended board S R (λ x. roles.Session x) (k + 1) (max_sessions - k) (worker_roles board.workers) c.loop-before.ends.items some c.loop-before.invariant.ends).1 in
+    let ends =
+    (next-ended board S R (λ x. roles.Session x) (k + 1) (max_sessions - k)
+    (worker_roles board.workers) c.loop-before.ends.items some c.loop-before.invariant.ends).1
+    in
     record {
       pass = e.pass;
-      joined = joined-more c.args.pass c.loop-before.pass c.in_ok-pass.pass c.loop-before.invariant.joined e.joined;
+      joined = joined-more c.args.pass c.loop-before.pass c.in_ok-pass.pass
+          c.loop-before.invariant.joined e.joined;
       replied = e.replied;
-      ends = subst (λ (z : ℕ × List (Result Part NoMemory)). HaveEnded board S R (map (λ x. roles.Session x) (range_with_len (k + 1 + 1) z.0) ++ worker_roles board.workers) z.1) (λ t. (less t, sym e.ends t)) ends;
+      ends = subst
+          (λ (z : ℕ × List (Result Part NoMemory)). HaveEnded board S R
+          (map (λ x. roles.Session x) (range_with_len (k + 1 + 1) z.0)
+          ++ worker_roles board.workers) z.1) (λ t. (less t, sym e.ends t)) ends;
     }

@@ -11,5 +11,7 @@ invariant-loop-before l = record {
   pass : IsPassWith l.shared.board.now [] l.pass;
   joined : IsJoined l.fn.pass l.pass;
   replied : HaveReplied l.pass l.shared.start.now l.shared.reads.now l.before l.replies;
-  ends : HaveEnded l.shared.board.now l.shared.start.now l.shared.reads.now (map roles.Session (range_with_len (l.before + 1) (max_sessions - l.before)) ++ worker_roles l.shared.board.now.workers) l.ends.items;
+  ends : HaveEnded l.shared.board.now l.shared.start.now l.shared.reads.now
+      (map roles.Session (range_with_len (l.before + 1) (max_sessions - l.before))
+      ++ worker_roles l.shared.board.now.workers) l.ends.items;
 }

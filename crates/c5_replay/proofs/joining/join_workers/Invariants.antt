@@ -9,5 +9,7 @@ abbrev pub invariant-loop-before : goal.invariant-loop-before
 invariant-loop-before l = record {
   worked : HaveWorked l.shared.board.now l.pass l.before l.workers.items;
   joined : IsJoined l.fn.pass l.pass;
-  ends : HaveEnded l.shared.board.now l.shared.start.now l.shared.reads.now (map roles.Worker (range_with_len (l.before + 1) (l.shared.board.now.workers - l.before)) ++ []) l.ends.items;
+  ends : HaveEnded l.shared.board.now l.shared.start.now l.shared.reads.now
+      (map roles.Worker (range_with_len (l.before + 1) (l.shared.board.now.workers - l.before))
+      ++ []) l.ends.items;
 }

@@ -9,6 +9,8 @@ returns g c =
     let board = c.args.shared.board.now in
     let S = c.args.shared.start.now in
     let R = c.args.shared.reads.now in
-    have-ended board S R c.args.parts.items c.in_ok-ends.ends.items (let n = e.len in search rules) (λ i d r less.
+    have-ended board S R c.args.parts.items c.in_ok-ends.ends.items (let n = e.len in search rules)
+    (λ i d r less.
     let k = (e.each i r less).1 in
-    subst (λ (p : Part). EndsOf board S R p (get_or c.in_ok-ends.ends.items i r)) (sym (k.job_is d)) k.call.met)
+    subst (λ (p : Part). EndsOf board S R p (get_or c.in_ok-ends.ends.items i r))
+    (sym (k.job_is d)) k.call.met)

@@ -21,12 +21,22 @@ loop-before-preserved c =
     let is = c.split_reader-rest.ensures.part in
     record {
       pass = c.split_reader-rest.ensures.rest ∙ inv.pass;
-      parts = λ start h. subst (λ (l : List Part). ArePlaying board start l) (sym items) (all-append (Plays board start []) c.loop-before.parts.items (part ∷ []) (inv.parts start h) (
-        (
-          record { of_board = ap (λ (x : Pass). x.board) is ∙ (ap (λ (x : Pass). x.board) inv.pass ∙ c.requires.pass); roles_so = ap (λ (x : Pass). x.roles) is },
-          subst (λ (l : List Reply). HasAnswered own start [] l) (sym c.new.ensures.items) (answered-none own start),
-        ),
-        tt,
-      ));
-      roles = roles-more (λ x. roles.Session x) c.loop-before.parts.items c.add.new.parts.items _ part k items refl inv.roles;
+      parts = λ start h. subst (λ (l : List Part). ArePlaying board start l) (sym items)
+          (all-append (Plays board start []) c.loop-before.parts.items (part ∷ [])
+          (inv.parts start h) (
+            (
+              record {
+                of_board = ap (λ (x : Pass). x.board) is ∙
+                    (ap (λ (x : Pass). x.board) inv.pass ∙ c.requires.pass);
+                roles_so =
+                    ap (λ (x : Pass). x.roles) is;
+              },
+              subst (λ (l : List Reply). HasAnswered own start [] l) (sym c.new.ensures.items)
+                  (answered-none own start),
+            ),
+            tt,
+          ));
+      roles = roles-more
+          (λ x. roles.Session x) c.loop-before.parts.items c.add.new.parts.items _ part k items refl
+          inv.roles;
     }

@@ -10,6 +10,8 @@ abbrev pub invariant-loop-before : goal.invariant-loop-before
 invariant-loop-before l = record {
   pass : IsPassWith l.board (numbers_from (l.before + 1) (l.board.workers - l.before)) l.pass;
   none : l.pass.installed ≡ [];
-  parts : (start : State) → ArePlaying l.board start l.fn.parts.items → ArePlaying l.board start l.parts.items;
-  roles : map role_of l.parts.items ≡ map role_of l.fn.parts.items ++ map roles.Worker (range_with_len 1 l.before);
+  parts : (start : State) → ArePlaying l.board start l.fn.parts.items
+      → ArePlaying l.board start l.parts.items;
+  roles : map role_of l.parts.items ≡ map role_of l.fn.parts.items
+      ++ map roles.Worker (range_with_len 1 l.before);
 }

@@ -4,4 +4,9 @@ use Rattle.c5_replay.specs.Parts.{IsPassWith}
 use Rattle.c5_replay.proofs.working.work.Given as goal
 
 abbrev pub invariant-loop-turn : goal.invariant-loop-turn
-invariant-loop-turn g l = record { pass : IsPassWith l.board (l.i ∷ []) l.pass; fits : FitsWorker l.worker l.pass; stalled : l.stalled < 1000 }
+invariant-loop-turn g l =
+    record {
+      pass : IsPassWith l.board (l.i ∷ []) l.pass;
+      fits : FitsWorker l.worker l.pass;
+      stalled : l.stalled < 1000;
+    }

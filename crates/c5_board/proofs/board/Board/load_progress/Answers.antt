@@ -15,10 +15,14 @@ load-requires c =
     let id = c.pass.inside.seat.id in
     let slots = c.self.inside.table.shared.table_id.slots in
     let q = same_board c.args.self.now c.args.pass.now _ c.pass.view_is c.requires.pass in
-    let m = met c.self.inside c.self.invariant c.pass.inside.seat.table_id c.pass.inside.seat.me.0 (c.self.view_is ∙ q) in
-    let is : IsWorker me.0.workers c.args.i = subst (λ (z : Board). IsWorker z.workers c.args.i) q c.requires.worker in
+    let m = met c.self.inside c.self.invariant c.pass.inside.seat.table_id c.pass.inside.seat.me.0
+    (c.self.view_is ∙ q) in
+    let is : IsWorker me.0.workers c.args.i =
+    subst (λ (z : Board). IsWorker z.workers c.args.i) q c.requires.worker in
     let i_some = is.0 in let i_within = is.1 in
-    load_requires b table me m id loads_progress c.progress_word.result (progress_word me.0.log c.args.i) (c.progress_word.ensures ∙ ap (λ (z : Board). progress_word z.log c.args.i) q) (omega arith)
+    load_requires b table me m id loads_progress c.progress_word.result
+    (progress_word me.0.log c.args.i)
+    (c.progress_word.ensures ∙ ap (λ (z : Board). progress_word z.log c.args.i) q) (omega arith)
     (loads_progress_step me m.plan slots id c.args.i is)
 
 pub invariant_of-pass : goal.invariant_of-pass
@@ -26,4 +30,5 @@ invariant_of-pass c =
     let q = same_board c.args.self.now c.args.pass.now _ c.pass.view_is c.requires.pass in
     let is = subst (λ (z : Board). IsWorker z.workers c.args.i) q c.requires.worker in
     let word = c.progress_word.ensures ∙ ap (λ (z : Board). progress_word z.log c.args.i) q in
-    still_pass c.pass.inside _ _ c.pass.invariant.place c.pass.invariant.no_slots (c.load.ensures.2 c.args.i is word).0
+    still_pass c.pass.inside _ _ c.pass.invariant.place c.pass.invariant.no_slots
+    (c.load.ensures.2 c.args.i is word).0

@@ -17,22 +17,29 @@ load-word-requires c =
     let id = c.pass.inside.seat.id in
     let slots = c.self.inside.table.shared.table_id.slots in
     let q = same_board c.args.self.now c.args.pass.now _ c.pass.view_is c.requires.pass in
-    let m = met c.self.inside c.self.invariant c.pass.inside.seat.table_id c.pass.inside.seat.me.0 (c.self.view_is ∙ q) in
-    let within = subst (λ (p : Pass). c.args.w ≤ p.scheduled) (sym c.pass.view_is) c.requires.write.1 in
+    let m = met c.self.inside c.self.invariant c.pass.inside.seat.table_id c.pass.inside.seat.me.0
+    (c.self.view_is ∙ q) in
+    let within = subst (λ (p : Pass). c.args.w ≤ p.scheduled)
+    (sym c.pass.view_is) c.requires.write.1 in
     let most = c.pass.invariant.sound.scheduled in
-    let is : IsWrite (names_in me.0.log.txns) c.args.w = record { positive = c.requires.write.0; within = omega arith } in
+    let is : IsWrite (names_in me.0.log.txns) c.args.w =
+    record { positive = c.requires.write.0; within = omega arith } in
     let some_w = is.positive in let w_within = is.within in
-    load_requires b table me m id loads_record c.record_word.result (record_word me.0.log c.args.w) (c.record_word.ensures ∙ ap (λ (z : Board). record_word z.log c.args.w) q) (omega arith)
+    load_requires b table me m id loads_record c.record_word.result (record_word me.0.log c.args.w)
+    (c.record_word.ensures ∙ ap (λ (z : Board). record_word z.log c.args.w) q) (omega arith)
     (loads_record_step me m.plan slots id c.args.w is within)
 
 pub unpacked-requires : goal.unpacked-requires
 unpacked-requires c =
     let q = same_board c.args.self.now c.args.pass.now _ c.pass.view_is c.requires.pass in
     let me = c.pass.inside.seat.me in
-    let m = met c.self.inside c.self.invariant c.pass.inside.seat.table_id c.pass.inside.seat.me.0 (c.self.view_is ∙ q) in
-    let within = subst (λ (p : Pass). c.args.w ≤ p.scheduled) (sym c.pass.view_is) c.requires.write.1 in
+    let m = met c.self.inside c.self.invariant c.pass.inside.seat.table_id c.pass.inside.seat.me.0
+    (c.self.view_is ∙ q) in
+    let within = subst (λ (p : Pass). c.args.w ≤ p.scheduled)
+    (sym c.pass.view_is) c.requires.write.1 in
     let most = c.pass.invariant.sound.scheduled in
-    let is : IsWrite (names_in me.0.log.txns) c.args.w = record { positive = c.requires.write.0; within = omega arith } in
+    let is : IsWrite (names_in me.0.log.txns) c.args.w =
+    record { positive = c.requires.write.0; within = omega arith } in
     let word = c.record_word.ensures ∙ ap (λ (z : Board). record_word z.log c.args.w) q in
     let told = c.load-word.ensures.2 c.args.w is word in
     let few = m.plan.planned.writes in
@@ -46,10 +53,13 @@ pub invariant_of-pass : goal.invariant_of-pass
 invariant_of-pass c =
     let q = same_board c.args.self.now c.args.pass.now _ c.pass.view_is c.requires.pass in
     let me = c.pass.inside.seat.me in
-    let m = met c.self.inside c.self.invariant c.pass.inside.seat.table_id c.pass.inside.seat.me.0 (c.self.view_is ∙ q) in
-    let within = subst (λ (p : Pass). c.args.w ≤ p.scheduled) (sym c.pass.view_is) c.requires.write.1 in
+    let m = met c.self.inside c.self.invariant c.pass.inside.seat.table_id c.pass.inside.seat.me.0
+    (c.self.view_is ∙ q) in
+    let within = subst (λ (p : Pass). c.args.w ≤ p.scheduled)
+    (sym c.pass.view_is) c.requires.write.1 in
     let most = c.pass.invariant.sound.scheduled in
-    let is : IsWrite (names_in me.0.log.txns) c.args.w = record { positive = c.requires.write.0; within = omega arith } in
+    let is : IsWrite (names_in me.0.log.txns) c.args.w =
+    record { positive = c.requires.write.0; within = omega arith } in
     let word = c.record_word.ensures ∙ ap (λ (z : Board). record_word z.log c.args.w) q in
     let told = c.load-word.ensures.2 c.args.w is word in
     let few = m.plan.planned.writes in
@@ -63,10 +73,13 @@ pub returns-clause-record : goal.returns-clause-record
 returns-clause-record c =
     let q = same_board c.args.self.now c.args.pass.now _ c.pass.view_is c.requires.pass in
     let me = c.pass.inside.seat.me in
-    let m = met c.self.inside c.self.invariant c.pass.inside.seat.table_id c.pass.inside.seat.me.0 (c.self.view_is ∙ q) in
-    let within = subst (λ (p : Pass). c.args.w ≤ p.scheduled) (sym c.pass.view_is) c.requires.write.1 in
+    let m = met c.self.inside c.self.invariant c.pass.inside.seat.table_id c.pass.inside.seat.me.0
+    (c.self.view_is ∙ q) in
+    let within = subst (λ (p : Pass). c.args.w ≤ p.scheduled)
+    (sym c.pass.view_is) c.requires.write.1 in
     let most = c.pass.invariant.sound.scheduled in
-    let is : IsWrite (names_in me.0.log.txns) c.args.w = record { positive = c.requires.write.0; within = omega arith } in
+    let is : IsWrite (names_in me.0.log.txns) c.args.w =
+    record { positive = c.requires.write.0; within = omega arith } in
     let word = c.record_word.ensures ∙ ap (λ (z : Board). record_word z.log c.args.w) q in
     let told = c.load-word.ensures.2 c.args.w is word in
     let few = m.plan.planned.writes in
@@ -74,16 +87,20 @@ returns-clause-record c =
     let before = m.plan.predecessors.below c.args.w is in
     let w_within = is.within in
     let packs = told.1 in
-    c.unpacked.ensures (record_of (names_in me.0.log.txns) c.args.w) packs (omega arith) ∙ ap (λ (z : Board). record_of (names z) c.args.w) (sym q)
+    c.unpacked.ensures (record_of (names_in me.0.log.txns) c.args.w) packs (omega arith) ∙ ap
+    (λ (z : Board). record_of (names z) c.args.w) (sym q)
 
 pub returns-clause-pass : goal.returns-clause-pass
 returns-clause-pass c =
     let q = same_board c.args.self.now c.args.pass.now _ c.pass.view_is c.requires.pass in
     let me = c.pass.inside.seat.me in
-    let m = met c.self.inside c.self.invariant c.pass.inside.seat.table_id c.pass.inside.seat.me.0 (c.self.view_is ∙ q) in
-    let within = subst (λ (p : Pass). c.args.w ≤ p.scheduled) (sym c.pass.view_is) c.requires.write.1 in
+    let m = met c.self.inside c.self.invariant c.pass.inside.seat.table_id c.pass.inside.seat.me.0
+    (c.self.view_is ∙ q) in
+    let within = subst (λ (p : Pass). c.args.w ≤ p.scheduled)
+    (sym c.pass.view_is) c.requires.write.1 in
     let most = c.pass.invariant.sound.scheduled in
-    let is : IsWrite (names_in me.0.log.txns) c.args.w = record { positive = c.requires.write.0; within = omega arith } in
+    let is : IsWrite (names_in me.0.log.txns) c.args.w =
+    record { positive = c.requires.write.0; within = omega arith } in
     let word = c.record_word.ensures ∙ ap (λ (z : Board). record_word z.log c.args.w) q in
     let told = c.load-word.ensures.2 c.args.w is word in
     let few = m.plan.planned.writes in
@@ -91,4 +108,9 @@ returns-clause-pass c =
     let before = m.plan.predecessors.below c.args.w is in
     let w_within = is.within in
     let packs = told.1 in
-    looked_pass c.pass.inside (record { place = c.pass.inside.place; seat = c.load-word.new.seat }) c.args.pass.now c.pass.view_is c.load-word.ensures.0 _ _ (ap (LoadRecord c.args.w) (sym (c.unpacked.ensures (record_of (names_in me.0.log.txns) c.args.w) packs (omega arith)))) told.0.0
+    looked_pass c.pass.inside
+    (record { place = c.pass.inside.place; seat = c.load-word.new.seat }) c.args.pass.now
+    c.pass.view_is c.load-word.ensures.0 _ _
+    (ap (LoadRecord c.args.w)
+    (sym (c.unpacked.ensures (record_of (names_in me.0.log.txns) c.args.w) packs
+    (omega arith)))) told.0.0

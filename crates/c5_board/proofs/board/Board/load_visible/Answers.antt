@@ -15,9 +15,13 @@ load-place-requires c =
     let id = c.pass.inside.seat.id in
     let slots = c.self.inside.table.shared.table_id.slots in
     let q = same_board c.args.self.now c.args.pass.now _ c.pass.view_is c.requires in
-    let m = met c.self.inside c.self.invariant c.pass.inside.seat.table_id c.pass.inside.seat.me.0 (c.self.view_is ∙ q) in
-    load_requires b table me m id loads_visible c.visible_word.result (visible_word me.0.log me.0.workers) (c.visible_word.ensures ∙ ap (λ (z : Board). visible_word z.log z.workers) q) (omega arith)
+    let m = met c.self.inside c.self.invariant c.pass.inside.seat.table_id c.pass.inside.seat.me.0
+    (c.self.view_is ∙ q) in
+    load_requires b table me m id loads_visible c.visible_word.result
+    (visible_word me.0.log me.0.workers)
+    (c.visible_word.ensures ∙ ap (λ (z : Board). visible_word z.log z.workers) q) (omega arith)
     (loads_visible_step me m.plan slots id)
 
 pub invariant_of-pass : goal.invariant_of-pass
-invariant_of-pass c = still_pass c.pass.inside _ _ refl c.pass.invariant.no_slots c.load-place.ensures.2.0
+invariant_of-pass c =
+    still_pass c.pass.inside _ _ refl c.pass.invariant.no_slots c.load-place.ensures.2.0

@@ -7,12 +7,15 @@ use Rattle.c5_board.specs.Boards.{Board}
 use Rattle.c5_board.proofs.board.Board.start.Goals as goal
 
 pub nonzero_rem-result : goal.nonzero_rem-result
-nonzero_rem-result c = let e = c.self.invariant.buckets in let two = count-two (writes_in c.self.inside.plan.now) in omega arith
+nonzero_rem-result c = let e = c.self.invariant.buckets in
+    let two = count-two (writes_in c.self.inside.plan.now) in omega arith
 
 pub overflow_cast-result-2 : goal.overflow_cast-result-2
 overflow_cast-result-2 c =
-    let e = c.self.invariant.buckets in let two = count-two (writes_in c.self.inside.plan.now) in let few = count-few (writes_in c.self.inside.plan.now) c.self.invariant.planned.writes in
-    let h : c.name_hash.result % c.self.inside.buckets < c.self.inside.buckets = mod-lt c.name_hash.result (omega arith) in omega arith
+    let e = c.self.invariant.buckets in let two = count-two (writes_in c.self.inside.plan.now) in
+    let few = count-few (writes_in c.self.inside.plan.now) c.self.invariant.planned.writes in
+    let h : c.name_hash.result % c.self.inside.buckets < c.self.inside.buckets =
+    mod-lt c.name_hash.result (omega arith) in omega arith
 
 pub returns-clause-value : goal.returns-clause-value
 unfolding start_of
@@ -24,4 +27,5 @@ pub returns-clause-within : goal.returns-clause-within
 returns-clause-within c =
     let e = c.self.invariant.buckets ∙ ap (λ (z : Board). buckets_in z.log) c.self.view_is in
     let two = count-two (writes_in c.self.inside.plan.now) in let same = c.self.invariant.buckets in
-    let h : c.name_hash.result % c.self.inside.buckets < c.self.inside.buckets = mod-lt c.name_hash.result (omega arith) in omega arith
+    let h : c.name_hash.result % c.self.inside.buckets < c.self.inside.buckets =
+    mod-lt c.name_hash.result (omega arith) in omega arith

@@ -7,4 +7,7 @@ pub store_progress-requires-clause-least : goal.store_progress-requires-clause-l
 store_progress-requires-clause-least c =
     let some = c.requires.fits.worker in
     let workers = c.requires.fits.workers in
-    subst (IsOutstanding c.args.pass.now c.args.self.now.i) (sym c.least.ensures) (outstanding c.args.self.now c.args.pass.now (c.number_law.ensures.owners c.args.pass.now.board.workers (omega arith)) c.place-place.ensures.sound c.requires.fits)
+    subst (IsOutstanding c.args.pass.now c.args.self.now.i) (sym c.least.ensures)
+    (outstanding c.args.self.now c.args.pass.now
+    (c.number_law.ensures.owners c.args.pass.now.board.workers (omega arith))
+    c.place-place.ensures.sound c.requires.fits)
