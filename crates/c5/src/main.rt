@@ -24,7 +24,7 @@ fn advice(status: Status) -> &'static str
     ensures { result.now ≡ advice_of status }
 {
     match status {
-        Status::BadWords => "c5: bad words; try c5 --help",
+        Status::BadWords => "c5: bad words (try c5 --help):",
         Status::ReadFault => "c5: reading standard input failed; nothing was written",
         Status::WriteFault => "c5: writing standard output failed; what was written is not whole",
         Status::NoMemory => "c5: out of memory; nothing was written",
@@ -32,19 +32,33 @@ fn advice(status: Status) -> &'static str
     }
 }
 
+// Writes what went wrong to standard error: one line, after bad words with the words in quotes.
+fn explain(rt: &HostRuntime, status: Status, words: &[String]) -> io::Result<()> {
+    let advice = advice(status);
+    if advice.is_empty() {
+        return Ok(());
+    }
+    eprint!(rt; "{advice}")?;
+    if status == Status::BadWords {
+        for word in words {
+            eprint!(rt; " {word:?}")?;
+        }
+    }
+    eprintln!(rt)
+}
+
 fn main(rt: HostRuntime) -> ExitCode {
     let alloc = rt.alloc();
-    let status = match words(&rt, alloc) {
-        Ok(words) => run(&rt, &rt, alloc, &words),
-        Err(error) if error.kind() == ErrorKind::OutOfMemory => Status::NoMemory,
+    let (status, words) = match words(&rt, alloc) {
+        Ok(words) => (run(&rt, &rt, alloc, &words), words),
+        Err(error) if error.kind() == ErrorKind::OutOfMemory => {
+            (Status::NoMemory, Vec::new(alloc))
+        }
         // Words that are no text are no command.
-        Err(_) => run(&rt, &rt, alloc, &[]),
+        Err(_) => (run(&rt, &rt, alloc, &[]), Vec::new(alloc)),
     };
-    let advice = advice(status);
-    if !advice.is_empty() {
-        // If this fails too, the exit status still says it.
-        let _ = eprintln!(rt; "{advice}");
-    }
+    // If this fails too, the exit status still says it.
+    let _ = explain(&rt, status, &words);
     ExitCode::from(status.number())
 }
 

@@ -6,7 +6,9 @@ use Rattle.c5_rows.specs.declared.tables.TableDef.{TableDef}
 use Rattle.c5_rows.specs.declared.writes.Txn.{Txn}
 use Rattle.c5_definitions.specs.Lawful.{IsLawfulLog, IsLawfulTxn}
 
-pub short-txns : (tables : List TableDef) (txns : List Txn) → IsLawfulLog tables txns → All (λ (txn : Txn). length txn.writes < 2 ^ 32) txns
+pub short-txns : (tables : List TableDef) (txns : List Txn) → IsLawfulLog tables txns
+    → All (λ (txn : Txn). length txn.writes < 2 ^ 32) txns
 short-txns tables txns lawful =
-    All-weaker (IsLawfulTxn tables) (λ (txn : Txn). length txn.writes < 2 ^ 32) (λ txn is. is.count) txns
+    All-weaker (IsLawfulTxn tables) (λ (txn : Txn). length txn.writes < 2 ^ 32)
+    (λ txn is. is.count) txns
     (All-from_recursion (IsLawfulTxn tables) txns lawful.each_txn)

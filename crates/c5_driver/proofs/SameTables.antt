@@ -34,8 +34,12 @@ types-are (x ∷ xs) (y ∷ ys) e =
 
 table-is : (a b : TableDef) → is_same_table a b ≡ true → a ≡ b
 table-is a b e =
-    let name : a.name ≡ b.name = bytes_eq-exact a.name b.name (both-first (bytes_eq a.name b.name) (are_same_types a.columns b.columns) e) in
-    let columns : a.columns ≡ b.columns = types-are a.columns b.columns (both-second (bytes_eq a.name b.name) (are_same_types a.columns b.columns) e) in
+    let name : a.name ≡ b.name =
+    bytes_eq-exact a.name b.name
+    (both-first (bytes_eq a.name b.name) (are_same_types a.columns b.columns) e) in
+    let columns : a.columns ≡ b.columns =
+    types-are a.columns b.columns
+    (both-second (bytes_eq a.name b.name) (are_same_types a.columns b.columns) e) in
     (λ i. record { name = name i; columns = columns i })
 
 -- the same tables are one list
@@ -44,7 +48,8 @@ tables-are [] [] e = refl
 tables-are [] (y ∷ ys) e = absurd cc
 tables-are (x ∷ xs) [] e = absurd cc
 tables-are (x ∷ xs) (y ∷ ys) e =
-    (λ i. table-is x y (both-first (is_same_table x y) (are_same_tables xs ys) e) i ∷ tables-are xs ys (both-second (is_same_table x y) (are_same_tables xs ys) e) i)
+    (λ i. table-is x y (both-first (is_same_table x y) (are_same_tables xs ys) e) i
+    ∷ tables-are xs ys (both-second (is_same_table x y) (are_same_tables xs ys) e) i)
 
 -- a test of types that tells them apart
 pub record TellsTypes (test : CellType → CellType → Bool) : Type 0 where
@@ -53,21 +58,27 @@ pub record TellsTypes (test : CellType → CellType → Bool) : Type 0 where
   pub ti : test Text Int ≡ false
   pub xx : test Text Text ≡ true
 
-same-type : (test : CellType → CellType → Bool) → TellsTypes test → (a b : CellType) → test a b ≡ is_same_type a b
+same-type : (test : CellType → CellType → Bool) → TellsTypes test → (a b : CellType)
+    → test a b ≡ is_same_type a b
 same-type test h Int Int = h.ii
 same-type test h Int Text = h.it
 same-type test h Text Int = h.ti
 same-type test h Text Text = h.xx
 
-same-types : (test : CellType → CellType → Bool) → TellsTypes test → (xs ys : List CellType) → pointwise test xs ys ≡ are_same_types xs ys
+same-types : (test : CellType → CellType → Bool) → TellsTypes test → (xs ys : List CellType)
+    → pointwise test xs ys ≡ are_same_types xs ys
 same-types test h [] [] = refl
 same-types test h [] (y ∷ ys) = refl
 same-types test h (x ∷ xs) [] = refl
 same-types test h (x ∷ xs) (y ∷ ys) = (λ i. same-type test h x y i && same-types test h xs ys i)
 
-pub same-tables : (test : CellType → CellType → Bool) (of : TableDef → TableDef → Bool) → TellsTypes test → ((a b : TableDef) → of a b ≡ (bytes_eq a.name b.name && pointwise test a.columns b.columns)) → (xs ys : List TableDef) → pointwise of xs ys ≡ are_same_tables xs ys
+pub same-tables : (test : CellType → CellType → Bool) (of : TableDef → TableDef → Bool)
+    → TellsTypes test
+    → ((a b : TableDef) → of a b ≡ (bytes_eq a.name b.name && pointwise test a.columns b.columns))
+    → (xs ys : List TableDef) → pointwise of xs ys ≡ are_same_tables xs ys
 same-tables test of h says [] [] = refl
 same-tables test of h says [] (y ∷ ys) = refl
 same-tables test of h says (x ∷ xs) [] = refl
 same-tables test of h says (x ∷ xs) (y ∷ ys) =
-    (λ i. (says x y ∙ ap (λ (b : Bool). bytes_eq x.name y.name && b) (same-types test h x.columns y.columns)) i && same-tables test of h says xs ys i)
+    (λ i. (says x y ∙ ap (λ (b : Bool). bytes_eq x.name y.name && b)
+    (same-types test h x.columns y.columns)) i && same-tables test of h says xs ys i)

@@ -11,8 +11,16 @@ use Rattle.c5_driver.specs.Refusals.{line_of}
 use Rattle.c5_driver.specs.Runs.{ProgramEnds}
 use Rattle.c5_driver.specs.Uses.{SourceUse, SinkUse}
 
-pub no_memory : (request : Option Request) (source : SourceUse) (sink : SinkUse) → ((limit : ℕ) → TakesAtMost limit source) → PrintsLine sink (line_of refusals.NoMemory) → ProgramEnds request statuses.NoMemory source sink
+pub no_memory : (request : Option Request) (source : SourceUse) (sink : SinkUse)
+    → ((limit : ℕ) → TakesAtMost limit source) → PrintsLine sink (line_of refusals.NoMemory)
+    → ProgramEnds request statuses.NoMemory source sink
 no_memory None source sink takes line = tt
-no_memory (Some (Run command options)) source sink takes line = record { refusal = refusals.NoMemory; ends = refl; refused = takes (input_limit command); line = line }
+no_memory (Some (Run command options)) source sink takes line =
+    record {
+      refusal = refusals.NoMemory;
+      ends = refl;
+      refused = takes (input_limit command);
+      line = line;
+    }
 no_memory (Some Help) source sink takes line = tt
 no_memory (Some Version) source sink takes line = tt

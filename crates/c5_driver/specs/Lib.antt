@@ -10,7 +10,6 @@ pub mod Numbers
 pub mod LogLimits
 pub mod SameTables
 pub mod LastWrites
-pub mod Options
 pub mod Commands
 pub mod Refusals
 pub mod Uses

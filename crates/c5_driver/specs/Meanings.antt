@@ -19,6 +19,7 @@ use Rattle.c5_definitions.specs.Script.{script_of, front_of}
 use Rattle.c5_definitions.specs.SerialRun.{SerialRun}
 use Rattle.c5_words.specs.declared.command.Command.{Command}
 use Rattle.c5_words.specs.declared.command.Command.TheVariants.{Apply, Primary, Backup, Clone}
+use Rattle.c5_words.specs.declared.options.Options.{Options}
 use Rattle.c5_driver.specs.declared.refusal.Refusal.{Refusal}
 use Rattle.c5_driver.specs.declared.refusal.Refusal.TheVariants.{BadLog, BadScript, Limit}
 use Rattle.c5_driver.specs.Commands.{input_limit}
@@ -126,14 +127,14 @@ pub record IsClone (input text : List ℕ) : Type 0 where
   pub printed : IsCloneOf script text
 
 -- the text that a command makes of an input
-abbrev pub IsTextOf : Command → List ℕ → List ℕ → Type 0
-IsTextOf Apply input text = IsRowsAfter input text
-IsTextOf Primary input text = IsLogOfRun input text
-IsTextOf Backup input text = IsBackup input text
-IsTextOf Clone input text = IsClone input text
+abbrev pub IsTextOf : Command → Options → List ℕ → List ℕ → Type 0
+IsTextOf Apply options input text = IsRowsAfter input text
+IsTextOf Primary options input text = IsLogOfRun input text
+IsTextOf Backup options input text = IsBackup input text
+IsTextOf Clone options input text = IsClone input text
 
 -- a command makes its text of the whole input, or refuses the input
-abbrev pub MakesText : Command → SourceUse → Result (Vec ℕ Global) Refusal → Type 0
-MakesText command source result =
+abbrev pub MakesText : Command → Options → SourceUse → Result (Vec ℕ Global) Refusal → Type 0
+MakesText command options source result =
     ReadsInput (input_limit command) (input_refusal command)
-    (λ input text. IsTextOf command input text.items) source result
+    (λ input text. IsTextOf command options input text.items) source result

@@ -26,12 +26,13 @@ use Rattle.c5_driver.specs.Refusals.{status_of, line_of}
 use Rattle.c5_driver.specs.Uses.{SourceUse, SinkUse}
 
 -- the whole input was read and is accepted, and the sink took the text that the command makes of it
-pub record Prints (command : Command) (source : SourceUse) (takes : List ℕ → Type 0) : Type 0 where
+pub record Prints (command : Command) (options : Options) (source : SourceUse)
+    (takes : List ℕ → Type 0) : Type 0 where
   pub input : List ℕ
   pub text : List ℕ
   pub read : ReadsAll (input_limit command) source input
   pub accepted : IsAccepted command input
-  pub made : IsTextOf command input text
+  pub made : IsTextOf command options input text
   pub printed : takes text
 
 -- the input was refused, with this status; the line that says why was printed
@@ -43,10 +44,11 @@ pub record PrintsRefusal (command : Command) (status : Status) (source : SourceU
   pub line : PrintsLine sink (line_of refusal)
 
 -- how a run of a command ends
-abbrev pub Ends : Command → Status → SourceUse → SinkUse → Type 0
-Ends command statuses.Ok source sink = Prints command source (PrintsAll sink)
-Ends command statuses.WriteFault source sink = Prints command source (PrintsPart sink)
-Ends command status source sink = PrintsRefusal command status source sink
+abbrev pub Ends : Command → Options → Status → SourceUse → SinkUse → Type 0
+Ends command options statuses.Ok source sink = Prints command options source (PrintsAll sink)
+Ends command options statuses.WriteFault source sink =
+    Prints command options source (PrintsPart sink)
+Ends command options status source sink = PrintsRefusal command status source sink
 
 -- how a run ends whose words are refused: with their line, or out of memory
 abbrev pub RefusesWords : Status → SinkUse → Type 0
@@ -63,7 +65,8 @@ PrintsPage page status sink = PrintsText status sink page
 -- how a run of the program ends whose words mean this
 abbrev pub ProgramEnds : Option Request → Status → SourceUse → SinkUse → Type 0
 ProgramEnds None status source sink = RefusesWords status sink
-ProgramEnds (Some (Run command options)) status source sink = Ends command status source sink
+ProgramEnds (Some (Run command options)) status source sink =
+    Ends command options status source sink
 ProgramEnds (Some Help) status source sink = PrintsPage help_text status sink
 ProgramEnds (Some Version) status source sink = PrintsPage version_text status sink
 

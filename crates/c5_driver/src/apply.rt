@@ -23,7 +23,7 @@ use c5_io::Source;
 use c5_plan::WrittenRow;
 use c5_rows::{NoMemory, RowEntry, Schema};
 use c5_text::rows_text;
-use c5_words::Command;
+use c5_words::{Command, Options};
 use std::alloc::Global;
 
 // Adds the row that its last write leaves, if that is a put.
@@ -104,8 +104,9 @@ fn text_of_log(alloc: Global, decoder: Decoder) -> Result<Vec<u8>, Refusal>
 }
 
 /// The text of the rows after the log that the source gives, or why there is none.
-pub fn apply<S: Source>(alloc: Global, source: &mut S) -> Result<Vec<u8>, Refusal>
-    ensures { MakesText Command.Apply (source_use S.left S.faults source.old source.new) result }
+pub fn apply<S: Source>(alloc: Global, options: Options, source: &mut S) -> Result<Vec<u8>, Refusal>
+    ensures { MakesText Command.Apply options
+        (source_use S.left S.faults source.old source.new) result }
 {
     let decoder = fed_whole(alloc, source, input_limit(Command::Apply))?;
     text_of_log(alloc, decoder)

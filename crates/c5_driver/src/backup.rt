@@ -8,7 +8,7 @@ ghost use Rattle.c5_driver.specs.Backups.{IsLogOver};
 ghost use Rattle.c5_driver.specs.Inputs.{IsRefusedBy};
 ghost use Rattle.c5_driver.specs.Meanings.{backup_refusal, log_refusal_over, other_tables};
 ghost use Rattle.c5_driver.specs.Meanings.{IsBackup, IsBackupOf, MakesText};
-ghost use Rattle.c5_driver.specs.Options.{AreOptions};
+ghost use Rattle.c5_words.specs.Meaning.{AreOptions};
 ghost use Rattle.c5_driver.specs.SameTables.{are_same_tables};
 ghost use Rattle.c5_driver.specs.Uses.{source_use};
 
@@ -112,7 +112,8 @@ pub fn backup<R: Threads + Sync, S: Source>(
     source: &mut S,
 ) -> Result<Vec<u8>, Refusal>
     requires { AreOptions options }
-    ensures { MakesText Command.Backup (source_use S.left S.faults source.old source.new) result }
+    ensures { MakesText Command.Backup options
+        (source_use S.left S.faults source.old source.new) result }
 {
     let bytes = read_bytes(alloc, source, input_limit(Command::Backup))?;
     text_of_backup(rt, alloc, &bytes, options)

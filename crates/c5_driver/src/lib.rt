@@ -8,6 +8,7 @@ mod command;
 mod decoding;
 mod limits;
 mod logs;
+mod orders;
 mod primary;
 mod printing;
 mod reading;
@@ -21,5 +22,7 @@ pub use refusal::Refusal;
 pub use run::c5;
 pub use status::Status;
 
+#[cfg(test)]
+mod device_tests;
 #[cfg(test)]
 mod tests;

@@ -1,6 +1,7 @@
 //! The log of a script's run.
 
 ghost use Rattle.std.specs.Prelude.{◌≡◌, ◌≤◌, List, length, None, IfOk};
+ghost use Rattle.c5_rows.specs.Sizes.{max_threads};
 ghost use Rattle.c5_rows.specs.declared.tables.TableDef.{TableDef};
 ghost use Rattle.c5_rows.specs.declared.writes.Txn.{Txn as Transaction};
 ghost use Rattle.c5_definitions.specs.Lawful.{Spells};
@@ -12,10 +13,12 @@ ghost use Rattle.c5_driver.specs.LogLimits.{excess_of_log};
 
 use crate::decoding::fed;
 use c5_frames::{LogBuffer, encode, one_log};
-use c5_primary::{run_serial, serial_run_law};
+use c5_io::OpenGate;
+use c5_primary::{run, serial_run_law};
 use c5_rows::{NoMemory, Txn};
 use c5_script::Script;
 use std::alloc::Global;
+use std::thread::Threads;
 
 // What a serial run of a script within the limits is.
 fn know_run(script: &Script, txns: &[Txn])
@@ -37,14 +40,20 @@ fn know_log(log: &LogBuffer)
     one_log();
 }
 
-/// The transactions of a script's bodies, each once, from no rows.
-pub fn run_of(alloc: Global, script: &Script) -> Result<Vec<Txn>, NoMemory>
-    requires { excess_of script.now ≡ None }
+/// The transactions of a script's bodies, each once, from no rows, run by so many threads.
+pub fn run_of<R: Threads + Sync>(
+    rt: &R,
+    alloc: Global,
+    script: &Script,
+    threads: u32,
+) -> Result<Vec<Txn>, NoMemory>
+    requires within { excess_of script.now ≡ None }
+    requires threads { (1 ≤ threads) × (threads ≤ max_threads) }
     ensures run { IfOk result (λ txns. SerialRun script.now.bodies no_rows txns.items) }
     ensures log { IfOk result (λ txns. IsLogWithin script.now txns.items) }
     ensures limits { IfOk result (λ txns. excess_of_log txns.items ≡ None) }
 {
-    let txns = run_serial(alloc, script)?;
+    let txns = run(rt, alloc, script, threads, &OpenGate)?;
     know_run(script, &txns);
     Ok(txns)
 }

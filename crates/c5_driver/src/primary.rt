@@ -6,6 +6,7 @@ ghost use Rattle.c5_definitions.specs.Lawful.{Spells};
 ghost use Rattle.c5_definitions.specs.Limits.{excess_of};
 ghost use Rattle.c5_definitions.specs.Outputs.{no_rows};
 ghost use Rattle.c5_definitions.specs.SerialRun.{SerialRun};
+ghost use Rattle.c5_words.specs.Meaning.{AreOptions};
 ghost use Rattle.c5_driver.specs.Meanings.{MakesText};
 ghost use Rattle.c5_driver.specs.Uses.{source_use};
 
@@ -17,29 +18,43 @@ use crate::scripts::script_in;
 use c5_io::Source;
 use c5_rows::NoMemory;
 use c5_script::Script;
-use c5_words::Command;
+use c5_words::{Command, Options};
 use std::alloc::Global;
+use std::thread::Threads;
 
 // The log of the bodies, run from no rows.
-fn log_of_run(alloc: Global, script: &Script) -> Result<Vec<u8>, NoMemory>
-    requires { excess_of script.now ≡ None }
+fn log_of_run<R: Threads + Sync>(
+    rt: &R,
+    alloc: Global,
+    script: &Script,
+    options: Options,
+) -> Result<Vec<u8>, NoMemory>
+    requires within { excess_of script.now ≡ None }
+    requires options { AreOptions options }
     ensures { IfOk result (λ text. (txns : List Txn)
         × SerialRun script.now.bodies no_rows txns
         × Spells text.items script.now.tables txns) }
 {
-    let txns = run_of(alloc, script)?;
+    let txns = run_of(rt, alloc, script, options.threads)?;
     let text = bytes_of(alloc, script, &txns)?;
     Ok(text)
 }
 
 /// The log of a serial run of the script that the source gives, or why there is none.
-pub fn primary<S: Source>(alloc: Global, source: &mut S) -> Result<Vec<u8>, Refusal>
-    ensures { MakesText Command.Primary (source_use S.left S.faults source.old source.new) result }
+pub fn primary<R: Threads + Sync, S: Source>(
+    rt: &R,
+    alloc: Global,
+    options: Options,
+    source: &mut S,
+) -> Result<Vec<u8>, Refusal>
+    requires { AreOptions options }
+    ensures { MakesText Command.Primary options
+        (source_use S.left S.faults source.old source.new) result }
 {
     let bytes = read_bytes(alloc, source, input_limit(Command::Primary))?;
     let script = script_in(alloc, &bytes)?;
     drop(bytes);
-    match log_of_run(alloc, &script) {
+    match log_of_run(rt, alloc, &script, options) {
         Ok(text) => Ok(text),
         Err(NoMemory) => Err(Refusal::NoMemory),
     }

@@ -9,7 +9,7 @@ ghost use Rattle.c5_definitions.specs.Outputs.{backup_text, no_rows, reply_text}
 ghost use Rattle.c5_definitions.specs.Texts.{rows_text};
 ghost use Rattle.c5_definitions.specs.WriteNumbers.{names_in};
 ghost use Rattle.c5_definitions.specs.WriteNumbers.{row_count};
-ghost use Rattle.c5_driver.specs.Options.{AreOptions};
+ghost use Rattle.c5_words.specs.Meaning.{AreOptions};
 ghost use Rattle.c5_driver.specs.Replaying.{IsReplayOver, PrintsReplay};
 
 use c5_io::OpenGate;
@@ -99,7 +99,25 @@ fn replay_of<R: Threads + Sync>(
     )
 }
 
-// Appends the replies and the rows.
+/// Appends the replies, each at a place of at most `total`, and the rows.
+pub fn push_replies_and_rows(
+    alloc: Global,
+    text: &mut Vec<u8>,
+    schema: &Schema,
+    replies: &[Reply],
+    rows: &Rows,
+    total: u32,
+) -> Result<(), NoMemory>
+    requires { All (λ (reply : ReplyValue). reply.place ≤ total) replies.now }
+    ensures { OnOk result (text.new.items ≡ text.old.items
+        ++ (flat_map (reply_text schema.now total) replies.now
+        ++ rows_text schema.now rows.now)) }
+{
+    push_replies(alloc, text, schema, replies, total)?;
+    push_rows(alloc, text, schema, rows)
+}
+
+// Appends what a replay gave.
 fn push_replayed(
     alloc: Global,
     text: &mut Vec<u8>,
@@ -112,9 +130,9 @@ fn push_replayed(
         ++ (flat_map (reply_text script.now.tables total) replayed.now.replies
         ++ rows_text script.now.tables replayed.now.rows)) }
 {
-    let schema = script.schema();
-    push_replies(alloc, text, schema, replayed.replies.as_slice(), total)?;
-    push_rows(alloc, text, schema, &replayed.rows)
+    let replies = replayed.replies.as_slice();
+    let rows = &replayed.rows;
+    push_replies_and_rows(alloc, text, script.schema(), replies, rows, total)
 }
 
 /// Appends the replies to the script's reads, each at some place of the log, and the rows after the

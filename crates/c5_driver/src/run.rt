@@ -2,7 +2,7 @@
 
 ghost use Rattle.std.specs.Prelude.{◌≡◌, IfSome, map, string_bytes};
 ghost use Rattle.c5_words.specs.Meaning.{meaning_of};
-ghost use Rattle.c5_driver.specs.Options.{AreOptions};
+ghost use Rattle.c5_words.specs.Meaning.{AreOptions};
 ghost use Rattle.c5_driver.specs.Meanings.{MakesText};
 ghost use Rattle.c5_driver.specs.Runs.{Ends, ProgramEnds, PrintsNothing, ProgramCompletes};
 ghost use Rattle.c5_driver.specs.Runs.{ReadsNothing, Headline};
@@ -29,11 +29,12 @@ fn text_of<R: Threads + Sync, S: Source>(
     source: &mut S,
 ) -> Result<Vec<u8>, Refusal>
     requires { AreOptions options }
-    ensures { MakesText command (source_use S.left S.faults source.old source.new) result }
+    ensures { MakesText command options
+        (source_use S.left S.faults source.old source.new) result }
 {
     match command {
-        Command::Apply => apply(alloc, source),
-        Command::Primary => primary(alloc, source),
+        Command::Apply => apply(alloc, options, source),
+        Command::Primary => primary(rt, alloc, options, source),
         Command::Backup => backup(rt, alloc, options, source),
         Command::Clone => clone(rt, alloc, options, source),
     }
@@ -49,7 +50,7 @@ fn run<R: Threads + Sync, S: Source, K: Sink>(
     sink: &mut K,
 ) -> Status
     requires { AreOptions options }
-    ensures ends { Ends command result
+    ensures ends { Ends command options result
         (source_use S.left S.faults source.old source.new)
         (sink_use K.held K.faults K.flushed sink.old sink.new) }
     ensures unwritten { PrintsNothing result → sink.new ≡ sink.old }

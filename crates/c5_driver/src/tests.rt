@@ -5,7 +5,7 @@ use std::test::Fail;
 use std::thread::Threads;
 
 // One transaction that puts 10 into the row `a` of the table `acct`, of one Int column.
-const ONE_PUT: [u8; 59] = [
+pub const ONE_PUT: [u8; 59] = [
     0x43, 0x35, 0x4c, 0x31, 0x01, 0x04, 0x61, 0x63, 0x63, 0x74, 0x01, 0x01, 0x00, 0x00, 0x00, 0x0d,
     0x57, 0x00, 0x01, 0x61, 0x00, 0x00, 0x00, 0x00, 0x00, 0x00, 0x00, 0x00, 0x0a, 0x00, 0x00, 0x00,
     0x11, 0x43, 0x00, 0x00, 0x00, 0x00, 0x00, 0x00, 0x00, 0x00, 0x00, 0x00, 0x00, 0x01, 0x00, 0x00,
@@ -13,7 +13,7 @@ const ONE_PUT: [u8; 59] = [
 ];
 
 // The script whose log that is.
-const SCRIPT: &[u8] = b"table acct int\ntxn\nput acct a 10\nend\n";
+pub const SCRIPT: &[u8] = b"table acct int\ntxn\nput acct a 10\nend\n";
 
 #[derive(Clone, Copy)]
 struct Run<'a> {
@@ -32,7 +32,7 @@ fn check<R: Threads + Sync>(rt: &R, alloc: Global, run: &Run<'_>) -> Result<bool
         words.push(String::from_str(alloc, word)?)?;
     }
     let mut source = MemorySource::new(run.input.to_vec(alloc)?, 7, run.reads.to_vec(alloc)?);
-    let mut sink = MemorySink::new(alloc, 100, 4, run.writes.to_vec(alloc)?)?;
+    let mut sink = MemorySink::new(alloc, 200, 4, run.writes.to_vec(alloc)?)?;
     let status = c5(rt, alloc, &words, &mut source, &mut sink);
     Ok(status == run.status && sink.held() == run.held)
 }

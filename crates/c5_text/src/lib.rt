@@ -1,10 +1,12 @@
-//! The printed texts of rows, orders and replies, and the readers of their lines.
+//! The printed texts of rows, orders, replies and counts of writes put off, and the readers of the
+//! lines of the first three.
 #![tactic(auto)]
 
 mod cells;
 mod lines;
 mod listing;
 mod order;
+mod put_off;
 mod reading;
 mod replies;
 #[cfg(test)]
@@ -13,5 +15,6 @@ mod words;
 
 pub use listing::rows_text;
 pub use order::{TextFault, order_text, read_order};
+pub use put_off::put_off_text;
 pub use reading::read_row;
 pub use replies::{ReplyHead, read_head, reply_text};

@@ -12,7 +12,7 @@ use itoa::Buffer;
 use std::alloc::Global;
 
 /// The head of a reply.
-#[derive(Clone, Copy, Debug, PartialEq, Eq)]
+#[derive(Clone, Copy, PartialEq, Eq)]
 pub struct ReplyHead {
     /// The number of the session that asked.
     pub session: u32,

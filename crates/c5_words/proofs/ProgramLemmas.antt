@@ -20,6 +20,7 @@ use Rattle.clap.specs.declared.builder.value_parser.ValueParser.TheVariants.{Uns
 use Rattle.clap.specs.declared.parser.matches.ArgMatches.{ArgMatches}
 use Rattle.c5_rows.specs.Sizes.{max_threads, max_workers}
 use Rattle.c5_words.specs.Program.{program, command_rule, threads_rule, workers_rule, count_rule}
+use Rattle.c5_words.specs.Program.{max_count}
 use Rattle.c5_words.proofs.OneKind.{IsOne, one_built}
 use Rattle.c5_words.proofs.Passing.{Known, option_passes}
 
@@ -87,6 +88,14 @@ only_workers (suc (suc zero)) r lt e = refl
 only_workers (suc (suc (suc zero))) r lt e = absurd (true≢false (sym e))
 only_workers (suc (suc (suc (suc j)))) r lt e = absurd (omega arith)
 
+only_count : (j : ℕ) (r : Rule) → j < 4
+    → bytes_eq (slice_index_or rules j r).id (codes "count") ≡ true → j ≡ 3
+only_count zero r lt e = absurd (true≢false (sym e))
+only_count (suc zero) r lt e = absurd (true≢false (sym e))
+only_count (suc (suc zero)) r lt e = absurd (true≢false (sym e))
+only_count (suc (suc (suc zero))) r lt e = refl
+only_count (suc (suc (suc (suc j)))) r lt e = absurd (omega arith)
+
 some_arg : (xs : List Arg) → 0 < length xs → Arg
 some_arg [] lt = absurd (omega arith)
 some_arg (x ∷ xs) lt = x
@@ -100,11 +109,11 @@ known_option : (old : Command) → map rule_of (args_of old) ≡ rules → (id :
     (d : Arg) → k < 4 → slice_index_or rules k (rule_of d) ≡ slice_index_or rules k threads_rule
     → (slice_index_or rules k threads_rule).id ≡ id
     → (slice_index_or rules k threads_rule).parser ≡ Some (Unsigned 1 most)
-    → slice_index_or id 0 0 ≡ c → 110 < c
+    → slice_index_or id 0 0 ≡ c → 0 < c → (c ≡ 104 → ⊥)
     → ((t : Text) → t ≡ id → t ≡ codes "version" → ⊥)
     → ((j : ℕ) (r : Rule) → j < 4 → bytes_eq (slice_index_or rules j r).id id ≡ true → j ≡ k)
     → Known old id most k d
-known_option old same id most k c d low there is_id parser first big not_version only =
+known_option old same id most k c d low there is_id parser first some not_help not_version only =
     let at : (j : ℕ) (e : Arg) → slice_index_or rules j (rule_of e)
     ≡ rule_of (slice_index_or (args_of old) j e) =
     λ j e. ap (λ (rs : List Rule). slice_index_or rs j (rule_of e)) (sym same)
@@ -124,10 +133,8 @@ known_option old same id most k c d low there is_id parser first big not_version
           let bad : 0 ≡ c = ap (λ (t : Text). slice_index_or t 0 0) (sym e) ∙ first in
           omega arith;
       own = λ auto. elim auto [
-        | inl h ↦
-            let bad : 104 ≡ c =
-            ap (λ (t : Text). slice_index_or t 0 0) (sym h ∙ here) ∙ first in
-            omega arith
+        | inl h ↦ not_help
+            (sym (ap (λ (t : Text). slice_index_or t 0 0) (sym h ∙ here) ∙ first))
         | inr h ↦ not_version (slice_index_or (args_of old) k d).id.now here h
       ];
       parser = ap (λ (r : Rule). r.parser) (sym (at k d) ∙ there) ∙ parser;
@@ -155,7 +162,7 @@ threads_pass old m p plain is =
     option_passes old m p plain (globals_of old is) (codes "threads") max_threads 1
     (first_arg old same)
     (known_option old same (codes "threads") max_threads 1 116 (first_arg old same) (omega arith)
-    refl refl refl refl (omega arith)
+    refl refl refl refl (omega arith) (λ e. omega arith)
     (λ t e v. let bad : 116 ≡ 118 = ap (λ (u : Text). slice_index_or u 0 0) (sym e ∙ v) in
     omega arith)
     only_threads)
@@ -168,7 +175,20 @@ workers_pass old m p plain is =
     option_passes old m p plain (globals_of old is) (codes "workers") max_workers 2
     (first_arg old same)
     (known_option old same (codes "workers") max_workers 2 119 (first_arg old same) (omega arith)
-    refl refl refl refl (omega arith)
+    refl refl refl refl (omega arith) (λ e. omega arith)
     (λ t e v. let bad : 119 ≡ 118 = ap (λ (u : Text). slice_index_or u 0 0) (sym e ∙ v) in
     omega arith)
     only_workers)
+
+pub count_pass : (old : Command) (m : ArgMatches) → IsParsedFrom old m → IsPlain old
+    → app_of old ≡ program
+    → IfSome (one_text (found_of m) (codes "count")) (IsUnsignedIn 1 max_count)
+count_pass old m p plain is =
+    let same = rules_are old is in
+    option_passes old m p plain (globals_of old is) (codes "count") max_count 3
+    (first_arg old same)
+    (known_option old same (codes "count") max_count 3 99 (first_arg old same) (omega arith)
+    refl refl refl refl (omega arith) (λ e. omega arith)
+    (λ t e v. let bad : 99 ≡ 118 = ap (λ (u : Text). slice_index_or u 0 0) (sym e ∙ v) in
+    omega arith)
+    only_count)

@@ -11,23 +11,24 @@ use Rattle.clap.specs.declared.error.kind.ErrorKind.{ErrorKind}
 use Rattle.clap.specs.declared.error.kind.ErrorKind.TheVariants as kind
 use Rattle.c5_rows.specs.Sizes.{max_threads, max_workers}
 use Rattle.c5_words.specs.Names.{command_named}
-use Rattle.c5_words.specs.Program.{program}
+use Rattle.c5_words.specs.Program.{program, default_count, max_count}
 use Rattle.c5_words.specs.declared.options.Options.{Options}
 use Rattle.c5_words.specs.declared.request.Request.{Request}
 use Rattle.c5_words.specs.declared.request.Request.TheVariants.{Run, Help, Version}
 use Rattle.c5_words.specs.declared.request.WordsFault.{WordsFault}
 use Rattle.c5_words.specs.declared.request.WordsFault.TheVariants.{Refused, NoMemory}
 
--- the number of the option of this name, 1 if it isn't given
-unfoldable pub option_number : Text → List Row → ℕ
-option_number name rows =
-    option_map_or (λ text. digits_value 10 (without_leading_plus text)) (one_of name rows) 1
+-- the number of the option of this name, the default if it isn't given
+unfoldable pub option_number : Text → ℕ → List Row → ℕ
+option_number name default rows =
+    option_map_or (λ text. digits_value 10 (without_leading_plus text)) (one_of name rows) default
 
 -- the numbers of the options
 abbrev pub options_of : List Row → Options
 options_of rows = record {
-  threads = option_number (codes "threads") rows;
-  workers = option_number (codes "workers") rows;
+  threads = option_number (codes "threads") 1 rows;
+  workers = option_number (codes "workers") 1 rows;
+  count = option_number (codes "count") default_count rows;
 }
 
 -- the run that accepted words ask for: none if their command has another name than those known
@@ -56,9 +57,17 @@ Answers meaning (Ok request) = meaning ≡ Some request
 Answers meaning (Err Refused) = meaning ≡ None
 Answers meaning (Err NoMemory) = ⊤
 
+-- each number is within its range
+pub record AreOptions (options : Options) : Type 0 where
+  pub some_threads : 1 ≤ options.threads
+  pub few_threads : options.threads ≤ max_threads
+  pub some_workers : 1 ≤ options.workers
+  pub few_workers : options.workers ≤ max_workers
+  pub some_count : 1 ≤ options.count
+  pub few_count : options.count ≤ max_count
+
 -- the numbers of a run are within their ranges
 abbrev pub IsWithin : Request → Type 0
-IsWithin (Run command options) = (1 ≤ options.threads) × (options.threads ≤ max_threads)
-    × (1 ≤ options.workers) × (options.workers ≤ max_workers)
+IsWithin (Run command options) = AreOptions options
 IsWithin Help = ⊤
 IsWithin Version = ⊤

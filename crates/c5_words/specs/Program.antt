@@ -9,6 +9,10 @@ use Rattle.c5_rows.specs.Sizes.{max_threads, max_transactions, max_workers}
 abbrev pub max_count : ℕ
 max_count = max_transactions
 
+-- transactions if `--count` isn't given
+abbrev pub default_count : ℕ
+default_count = 1000
+
 -- one required word: the command
 abbrev pub command_rule : Rule
 command_rule = record (new_rule (codes "command")) { required = true }

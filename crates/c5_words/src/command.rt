@@ -8,7 +8,7 @@ ghost use Rattle.c5_words.specs.Names.{command_named};
 pub enum Command {
     /// Prints the rows after a whole log.
     Apply,
-    /// Runs a script's transactions one by one, and writes their log.
+    /// Runs a script's transactions, and writes their log.
     Primary,
     /// Replays a log on a backup, and answers the reads of a script.
     Backup,

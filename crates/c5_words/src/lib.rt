@@ -9,7 +9,7 @@ mod request;
 mod texts;
 
 pub use command::Command;
-pub use options::Options;
+pub use options::{DEFAULT_COUNT, Options};
 pub use parsing::request_of;
 pub use request::{Request, WordsFault};
 pub use texts::{help_text, version_text};

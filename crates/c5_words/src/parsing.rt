@@ -9,19 +9,19 @@ ghost use Rattle.c5_words.specs.Meaning.{Answers, IsWithin, meaning_of, option_n
 ghost use Rattle.c5_words.specs.Meaning.{run_of};
 
 use crate::command::command_named;
-use crate::options::Options;
+use crate::options::{DEFAULT_COUNT, Options};
 use crate::program::program;
 use crate::request::{Request, WordsFault};
 use clap::ArgMatches;
 use clap::error::ErrorKind;
 use std::alloc::Global;
 
-// The number of the option of this name, 1 if it isn't given.
-fn number_given(matches: &ArgMatches<'_>, name: &str) -> u32
+// The number of the option of this name, `default` if it isn't given.
+fn number_given(matches: &ArgMatches<'_>, name: &str, default: u32) -> u32
     requires { IfSome (one_text (found_of matches.now) name.now) (IsUnsignedIn 1 max_count) }
-    ensures { result ≡ option_number name.now (rows_of (found_of matches.now)) }
+    ensures { result ≡ option_number name.now default (rows_of (found_of matches.now)) }
 {
-    matches.get_one::<u32>(name).unwrap_or(1)
+    matches.get_one::<u32>(name).unwrap_or(default)
 }
 
 // The run that words ask for, if `clap` accepts them.
@@ -30,12 +30,15 @@ fn run_of(matches: &ArgMatches<'_>) -> Result<Request, WordsFault>
         (IsUnsignedIn 1 max_threads) }
     requires workers { IfSome (one_text (found_of matches.now) (codes "workers"))
         (IsUnsignedIn 1 max_workers) }
+    requires count { IfSome (one_text (found_of matches.now) (codes "count"))
+        (IsUnsignedIn 1 max_count) }
     ensures meaning { Answers (run_of (rows_of (found_of matches.now))) result }
     ensures within { IfOk result IsWithin }
 {
     let options = Options {
-        threads: number_given(matches, "threads"),
-        workers: number_given(matches, "workers"),
+        threads: number_given(matches, "threads", 1),
+        workers: number_given(matches, "workers", 1),
+        count: number_given(matches, "count", DEFAULT_COUNT),
     };
     match matches.get_str("command") {
         Some(word) => match command_named(word) {

@@ -37,7 +37,7 @@ fn answer_to(alloc: Global, words: &[&str]) -> Result<Asked, Fail> {
 #[test]
 fn words_and_what_they_ask_for(rt: HostRuntime) -> Result<(), Fail> {
     let alloc = rt.alloc();
-    let table: [(&[&str], Asked); 16] = [
+    let table: [(&[&str], Asked); 18] = [
         (&["clone"], Asked::Clone(1, 1)),
         (&[], Asked::Refused),
         (&["frob"], Asked::Refused),
@@ -54,6 +54,8 @@ fn words_and_what_they_ask_for(rt: HostRuntime) -> Result<(), Fail> {
             Asked::Refused,
         ),
         (&["backup", "--workers", "0"], Asked::Refused),
+        (&["backup", "--workers", "2"], Asked::Backup(1, 2)),
+        (&["clone", "--count", "65537"], Asked::Refused),
         (&["--", "apply"], Asked::Apply(1, 1)),
         (&["--help"], Asked::Help),
         (&["-h"], Asked::Help),

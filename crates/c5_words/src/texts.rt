@@ -16,8 +16,8 @@ commands:
   clone      reads a script; prints the order of its run, the replies, the rows
 
 options:
-  --threads N    threads that run a script, 1 to 16, default 1 (no command yet)
-  --workers N    workers that replay a log, 1 to 16, default 1 (backup, clone)
+  --threads N    threads of a run, 1 to 16, default 1 (primary, clone)
+  --workers N    workers of a replay, 1 to 16, default 1 (backup, clone)
   --count N      transactions to make, 1 to 65536, default 1000 (no command yet)
   -h, --help     prints this text, and reads nothing
   -V, --version  prints the version, and reads nothing

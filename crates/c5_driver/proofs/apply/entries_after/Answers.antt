@@ -6,4 +6,5 @@ pub entries_left-requires : goal.entries_left-requires
 entries_left-requires c = rows-have-writes c.args.log.txns c.args.rows.now c.requires
 
 pub returns-clause-entries : goal.returns-clause-entries
-returns-clause-entries c = c.in_ok-entries.ensures ∙ rows-left c.args.log.txns c.args.rows.now c.requires
+returns-clause-entries c =
+    c.in_ok-entries.ensures ∙ rows-left c.args.log.txns c.args.rows.now c.requires

@@ -11,9 +11,13 @@ pub returns-in-Ok-Some-clause-within : goal.returns-in-Ok-Some-clause-within
 returns-in-Ok-Some-clause-within c =
     let is = c.in-Ok.ensures.planned in
     none-passed c.args.log.now.txns is.transactions is.writes
-    (not-too-many c.in-Ok-Some.field-0 c.in-Ok-Some.rows max_rows (row_count (names_in c.args.log.now.txns)) c.in-Ok-Some.ensures.too_many c.in-Ok-Some.field-0-is)
+    (not-too-many c.in-Ok-Some.field-0 c.in-Ok-Some.rows max_rows
+    (row_count (names_in c.args.log.now.txns)) c.in-Ok-Some.ensures.too_many
+    c.in-Ok-Some.field-0-is)
 
 pub returns-in-Ok-None-clause-refused : goal.returns-in-Ok-None-clause-refused
 returns-in-Ok-None-clause-refused c =
     let is = c.in-Ok.ensures.planned in
-    ap (option_map Limit) (rows-passed c.args.log.now.txns is.transactions is.writes (c.in-Ok-None.ensures.too_many.0 (rw c.in-Ok-None.field-0-is refl)))
+    ap (option_map Limit)
+    (rows-passed c.args.log.now.txns is.transactions is.writes
+    (c.in-Ok-None.ensures.too_many.0 (rw c.in-Ok-None.field-0-is refl)))

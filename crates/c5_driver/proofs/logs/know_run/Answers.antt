@@ -7,7 +7,9 @@ pub returns-clause-log : goal.returns-clause-log
 returns-clause-log c =
     let script = c.args.script.now in
     let none : State = empty in
-    c.serial_run_law.ensures.runs script none c.args.txns.now c.schema-schema.ensures.script (within-limits script c.requires.within) (c.serial_run_law.ensures.no_rows script.tables) c.requires.run
+    c.serial_run_law.ensures.runs script none c.args.txns.now c.schema-schema.ensures.script
+    (within-limits script c.requires.within)
+    (c.serial_run_law.ensures.no_rows script.tables) c.requires.run
 
 pub returns-clause-limits : goal.returns-clause-limits
 returns-clause-limits c =

@@ -11,7 +11,10 @@ loop-table-preserved c number table lt at =
       | inl before ↦ c.loop-table.invariant number table before at
       | inr past ↦
           let same : c.loop-table.table-index ≡ number = omega arith in
-          let this : c.table-item.result ≡ table = c.table-item.is ∙ ap (λ (i : ℕ). get_or c.args.tables.now i c.table-item.result) same ∙ get_or_from_slice_get c.args.tables.now number table _ at in
+          let this : c.table-item.result ≡ table =
+          c.table-item.is ∙ ap
+          (λ (i : ℕ). get_or c.args.tables.now i c.table-item.result) same ∙
+          get_or_from_slice_get c.args.tables.now number table _ at in
           subst (λ (t : TableDef). IsTableName t.name) this c.bytes.ensures.is_name
     ]
 
