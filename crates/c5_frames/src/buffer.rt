@@ -15,7 +15,7 @@ use c5_rows::Schema;
 use std::marker::Model;
 
 /// A whole log: its bytes, and where its writes lie in them.
-#[derive(Debug, Drop)]
+#[derive(Drop)]
 pub struct LogBuffer {
     bytes: Vec<u8>,
     schema: Schema,

@@ -133,7 +133,7 @@ fn finish_log(bytes: Vec<u8>, progress: DecoderState) -> Result<LogBuffer, LogFa
 }
 
 /// Decodes a log that comes in pieces. To contracts it is the bytes that were fed.
-#[derive(Debug, Drop)]
+#[derive(Drop)]
 pub struct Decoder {
     bytes: Vec<u8>,
     progress: DecoderState,

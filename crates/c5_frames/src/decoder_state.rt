@@ -5,7 +5,7 @@ use crate::stage::Stage;
 use c5_rows::Schema;
 
 /// How far a log has been read, by whole items.
-#[derive(Debug, Drop)]
+#[derive(Drop)]
 pub struct DecoderState {
     /// The tables that have come.
     pub schema: Option<Schema>,

@@ -20,14 +20,14 @@ pub struct TxnRef {
 }
 
 /// Where the payload of a write lies.
-#[derive(Clone, Copy, Debug, PartialEq, Eq)]
+#[derive(Clone, Copy, PartialEq, Eq)]
 pub struct Place {
     pub at: u32,
     pub size: u32,
 }
 
 /// What has been found of the frames of a log.
-#[derive(Debug, Drop)]
+#[derive(Drop)]
 pub struct Index {
     /// The writes.
     pub places: Vec<Place>,

@@ -12,7 +12,7 @@ use c5_definitions::LogKind;
 use c5_rows::{CellType, MAX_KEY_BYTES, MAX_TEXT_BYTES, TableDef, are_key_bytes, are_text_bytes};
 
 /// The numbers of a commit mark.
-#[derive(Clone, Copy, Debug, PartialEq, Eq)]
+#[derive(Clone, Copy, PartialEq, Eq)]
 pub struct Mark {
     pub script: u32,
     pub stamp: u64,
@@ -20,14 +20,14 @@ pub struct Mark {
 }
 
 /// The name of a write: the number of its table, and the bytes of its key where they lie.
-#[derive(Clone, Copy, Debug)]
+#[derive(Clone, Copy)]
 pub struct NameRef<'a> {
     pub table: u8,
     pub key: &'a [u8],
 }
 
 /// What a payload that passes all tests of its own holds.
-#[derive(Clone, Copy, Debug)]
+#[derive(Clone, Copy)]
 pub enum Checked<'a> {
     Write(NameRef<'a>),
     Mark(Mark),

@@ -7,7 +7,7 @@ use crate::{Failed, Sink, Source};
 use std::io::{Read, Write};
 
 /// A source over a reader of std.
-#[derive(Debug, Drop)]
+#[derive(Drop)]
 pub struct StdSource<R: Read> {
     reader: R,
     faults: u64,
@@ -40,7 +40,7 @@ impl<R: Read> Source for StdSource<R> {
 }
 
 /// A sink over a writer of std.
-#[derive(Debug, Drop)]
+#[derive(Drop)]
 pub struct StdSink<W: Write> {
     writer: W,
     faults: u64,

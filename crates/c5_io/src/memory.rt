@@ -14,7 +14,7 @@ use std::alloc::Global;
 use std::marker::Model;
 
 /// A source of bytes in memory. The calls of given numbers fail.
-#[derive(Debug, Drop)]
+#[derive(Drop)]
 pub struct MemorySource {
     bytes: Vec<u8>,
     at: usize,
@@ -95,7 +95,7 @@ impl Source for MemorySource {
 }
 
 /// A source of bytes in memory that never fails.
-#[derive(Debug, Drop)]
+#[derive(Drop)]
 pub struct PlainSource {
     bytes: Vec<u8>,
     at: usize,
@@ -155,7 +155,7 @@ fn copy_front(from: &[u8], into: &mut [u8], most: usize) -> usize
 }
 
 /// A sink in memory. The calls of given numbers fail, and so does a write when it is full.
-#[derive(Debug, Drop)]
+#[derive(Drop)]
 pub struct MemorySink {
     bytes: Vec<u8>,
     room: usize,

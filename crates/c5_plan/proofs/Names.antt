@@ -1,5 +1,6 @@
 -- Names as keys of a map.
-use Rattle.std.proofs.Common.{◌≡◌, ◌∙◌, ◌||◌, Bool, true, false, List, [], ◌∷◌, map, cond, sym, ap, refl, Option, Some, is_some, true≢false}
+use Rattle.std.proofs.Common.{◌≡◌, ◌∙◌, ◌||◌, Bool, true, false, List, [], ◌∷◌, map, cond, sym, ap}
+use Rattle.std.proofs.Common.{refl, Option, Some, is_some, true≢false}
 use Rattle.std.specs.Cmp.{IsEquivalence}
 use Rattle.std.specs.List.{IsDistinct, AllByRecursion, list_any}
 use Rattle.std.specs.Map.{lookup, keys_of}
@@ -8,16 +9,22 @@ use Rattle.std.proofs.lemmas.Map.Made.{is_some-lookup}
 use Rattle.indexmap.specs.IndexMap.{insert_entry}
 
 module _ {N K : Type 0} (named : N → K) (same : K → K → Bool) where
-  any-named : (name : K) (ks : List N) → list_any (λ (n : N). same name (named n)) ks ≡ is_member same (map named ks) name
+  any-named : (name : K) (ks : List N) → list_any (λ (n : N). same name (named n)) ks
+      ≡ is_member same (map named ks) name
   any-named name [] = refl
   any-named name (k ∷ ks) = ap (λ (b : Bool). same name (named k) || b) (any-named name ks)
 
   -- a name is among the keys where something is found
-  pub member-found : {X : Type 0} (name : K) (es : List (N × X)) → is_member same (map named (keys_of es)) name ≡ is_some (lookup (λ (n : N). same name (named n)) es)
-  member-found name es = sym (any-named name (keys_of es)) ∙ sym (is_some-lookup (λ (n : N). same name (named n)) es)
+  pub member-found : {X : Type 0} (name : K) (es : List (N × X))
+      → is_member same (map named (keys_of es)) name
+      ≡ is_some (lookup (λ (n : N). same name (named n)) es)
+  member-found name es = sym (any-named name (keys_of es)) ∙ sym
+      (is_some-lookup (λ (n : N). same name (named n)) es)
 
-module _ {N K : Type 0} (named : N → K) (eq : N → N → Bool) (same : K → K → Bool) (agrees : (a b : N) → eq a b ≡ same (named a) (named b)) where
-  names-apart : (x : N) (ks : List N) → AllByRecursion (λ y. eq x y ≡ false) ks → AllByRecursion (λ y. same (named x) y ≡ false) (map named ks)
+module _ {N K : Type 0} (named : N → K) (eq : N → N → Bool) (same : K → K → Bool)
+    (agrees : (a b : N) → eq a b ≡ same (named a) (named b)) where
+  names-apart : (x : N) (ks : List N) → AllByRecursion (λ y. eq x y ≡ false) ks
+      → AllByRecursion (λ y. same (named x) y ≡ false) (map named ks)
   names-apart x [] h = tt
   names-apart x (k ∷ ks) h = (sym (agrees x k) ∙ h.0, names-apart x ks h.1)
 
@@ -27,34 +34,48 @@ module _ {N K : Type 0} (named : N → K) (eq : N → N → Bool) (same : K → 
   IsDistinct-named [] h = tt
   IsDistinct-named (k ∷ ks) h = (names-apart k ks h.0, IsDistinct-named ks h.1)
 
-module _ {N K X : Type 0} (named : N → K) (eq : N → N → Bool) (same : K → K → Bool) (laws : IsEquivalence same) (agrees : (a b : N) → eq a b ≡ same (named a) (named b)) where
+module _ {N K X : Type 0} (named : N → K) (eq : N → N → Bool) (same : K → K → Bool)
+    (laws : IsEquivalence same) (agrees : (a b : N) → eq a b ≡ same (named a) (named b)) where
   -- what is found by a name
   abbrev pub found : K → List (N × X) → Option X
   found name es = lookup (λ (n : N). same name (named n)) es
 
-  merged : (v w : X) (o : Option X) (b c : Bool) → c ≡ b → cond c (Some v) o ≡ cond b (Some v) (cond c (Some w) o)
+  merged : (v w : X) (o : Option X) (b c : Bool) → c ≡ b
+      → cond c (Some v) o ≡ cond b (Some v) (cond c (Some w) o)
   merged v w o true true p = refl
   merged v w o true false p = cc
   merged v w o false true p = cc
   merged v w o false false p = refl
 
-  swapped : (name : K) (k l : N) (v w : X) (o : Option X) (b c : Bool) → same name (named k) ≡ b → same name (named l) ≡ c → eq k l ≡ false → cond c (Some w) (cond b (Some v) o) ≡ cond b (Some v) (cond c (Some w) o)
+  swapped : (name : K) (k l : N) (v w : X) (o : Option X) (b c : Bool) → same name (named k) ≡ b
+      → same name (named l) ≡ c → eq k l ≡ false
+      → cond c (Some w) (cond b (Some v) o) ≡ cond b (Some v) (cond c (Some w) o)
   swapped name k l v w o true true p q r =
-      let tie : same (named k) (named l) ≡ true = laws.congr (named k) name (named l) (laws.symm (named k) name ∙ p) ∙ q in
+      let tie : same (named k) (named l) ≡ true =
+      laws.congr (named k) name (named l) (laws.symm (named k) name ∙ p) ∙ q in
       absurd (true≢false (sym tie ∙ sym (agrees k l) ∙ r))
   swapped name k l v w o true false p q r = refl
   swapped name k l v w o false c p q r = refl
 
-  inserted : (name : K) (e : N × X) (es : List (N × X)) (k : N) (v : X) (b : Bool) → eq k e.0 ≡ b → found name (insert_entry eq es k v) ≡ cond (same name (named k)) (Some v) (found name es)
-      → found name (cond b ((e.0, v) ∷ es) (e ∷ insert_entry eq es k v)) ≡ cond (same name (named k)) (Some v) (cond (same name (named e.0)) (Some e.1) (found name es))
+  inserted : (name : K) (e : N × X) (es : List (N × X)) (k : N) (v : X) (b : Bool) → eq k e.0 ≡ b
+      → found name (insert_entry eq es k v) ≡ cond (same name (named k)) (Some v) (found name es)
+      → found name (cond b ((e.0, v) ∷ es) (e ∷ insert_entry eq es k v))
+      ≡ cond (same name (named k)) (Some v)
+      (cond (same name (named e.0)) (Some e.1) (found name es))
   inserted name e es k v true r h =
       merged v e.1 (found name es) (same name (named k)) (same name (named e.0))
-      (laws.symm name (named e.0) ∙ sym (laws.congr (named k) (named e.0) name (sym (agrees k e.0) ∙ r)) ∙ laws.symm (named k) name)
+      (laws.symm name (named e.0) ∙ sym
+      (laws.congr (named k) (named e.0) name (sym (agrees k e.0) ∙ r)) ∙ laws.symm
+      (named k) name)
   inserted name e es k v false r h =
       ap (λ (o : Option X). cond (same name (named e.0)) (Some e.1) o) h
-      ∙ swapped name k e.0 v e.1 (found name es) (same name (named k)) (same name (named e.0)) refl refl r
+      ∙ swapped name k e.0 v e.1 (found name es) (same name (named k))
+      (same name (named e.0)) refl refl r
 
-  -- after a pair was inserted, its value is found by its name, and by any other name what was found before
-  pub found-inserted : (name : K) (es : List (N × X)) (k : N) (v : X) → found name (insert_entry eq es k v) ≡ cond (same name (named k)) (Some v) (found name es)
+  -- after a pair was inserted, its value is found by its name, and by any other name what was found
+  -- before
+  pub found-inserted : (name : K) (es : List (N × X)) (k : N) (v : X)
+      → found name (insert_entry eq es k v) ≡ cond (same name (named k)) (Some v) (found name es)
   found-inserted name [] k v = refl
-  found-inserted name (e ∷ es) k v = inserted name e es k v (eq k e.0) refl (found-inserted name es k v)
+  found-inserted name (e ∷ es) k v =
+      inserted name e es k v (eq k e.0) refl (found-inserted name es k v)

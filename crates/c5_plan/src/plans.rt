@@ -8,7 +8,7 @@ use c5_frames::LogBuffer;
 use c5_rows::{MAX_TRANSACTIONS, MAX_WRITES};
 
 /// Which limit a log passes.
-#[derive(Clone, Copy, Debug, PartialEq, Eq)]
+#[derive(Clone, Copy, PartialEq, Eq)]
 pub enum PlanFault {
     /// It has more than 65,536 transactions.
     Transactions,

@@ -11,7 +11,7 @@ use indexmap::IndexMap;
 use std::alloc::Global;
 
 /// A row that a log writes.
-#[derive(Clone, Copy, Debug, PartialEq, Eq, PartialOrd, Ord)]
+#[derive(Clone, Copy, PartialEq, Eq, PartialOrd, Ord)]
 pub struct WrittenRow {
     pub name: RowName,
     /// The number of its last write, which counts from 1.

@@ -20,7 +20,7 @@ pub enum AnswerLine {
 }
 
 /// The answer to a read block: one line for each of its lines, in order.
-#[derive(Debug, Drop)]
+#[derive(Drop)]
 pub struct Answer {
     lines: Vec<AnswerLine>,
 }
@@ -62,7 +62,7 @@ impl Answer {
 }
 
 /// The reply to a read block.
-#[derive(Debug, Drop)]
+#[derive(Drop)]
 pub struct Reply {
     /// The number of the session that asked.
     pub session: u32,
@@ -72,7 +72,7 @@ pub struct Reply {
 }
 
 /// Replies, in order.
-#[derive(Debug, Drop)]
+#[derive(Drop)]
 pub struct Replies {
     replies: Vec<Reply>,
 }

@@ -170,7 +170,7 @@ impl TextCell {
 }
 
 /// The name of a table: 1 to 16 bytes of `a-z`, `0-9` and `_`.
-#[derive(Clone, Copy, Debug, PartialEq, Eq, PartialOrd, Ord)]
+#[derive(Clone, Copy, PartialEq, Eq, PartialOrd, Ord)]
 pub struct TableName {
     bytes: Padded<u8, MAX_NAME_BYTES>,
 }

@@ -56,7 +56,7 @@ impl Columns {
 }
 
 /// A table: its name, and the types of its columns.
-#[derive(Clone, Copy, Debug, PartialEq, Eq)]
+#[derive(Clone, Copy, PartialEq, Eq)]
 pub struct TableDef {
     pub name: TableName,
     pub columns: Columns,
@@ -88,7 +88,7 @@ pub enum BadSchema {
 }
 
 /// 1 to 16 tables of different names, held in the value itself. Tables are numbered from 0.
-#[derive(Clone, Copy, Debug, PartialEq, Eq)]
+#[derive(Clone, Copy, PartialEq, Eq)]
 pub struct Schema {
     tables: Padded<TableDef, MAX_TABLES>,
 }

@@ -36,7 +36,7 @@ pub struct Write {
 }
 
 /// The writes of a transaction, at most one a row, strictly ascending by name.
-#[derive(Debug, Drop)]
+#[derive(Drop)]
 pub struct Writes {
     writes: Vec<Write>,
 }
@@ -165,7 +165,7 @@ impl Writes {
 }
 
 /// A transaction of a log.
-#[derive(Debug, Drop)]
+#[derive(Drop)]
 pub struct Txn {
     /// The number of its body in the primary's script; in a log any number.
     pub script: u32,

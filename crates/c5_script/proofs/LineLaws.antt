@@ -1,5 +1,6 @@
 -- The first line of bytes.
-use Rattle.std.proofs.Common.{◌≡◌, ◌+◌, ◌<◌, ◌≤◌, ℕ, Bool, true, false, eqb, List, [], ◌∷◌, length, get_or, take, drop, Option, Some, None, refl, arith}
+use Rattle.std.proofs.Common.{◌≡◌, ◌+◌, ◌<◌, ◌≤◌, ℕ, Bool, true, false, eqb, List, [], ◌∷◌, length}
+use Rattle.std.proofs.Common.{get_or, take, drop, Option, Some, None, refl, arith}
 use Rattle.std.specs.List.{position, position_or_len}
 use Rattle.std.proofs.lemmas.Grind.{common_steps}
 use Rattle.std.proofs.lemmas.List.Sums.{position_or_len_is}
@@ -11,7 +12,8 @@ is_end byte = eqb byte 10
 
 -- where a line end stands, the first line goes up to it
 lines-before_end : (bytes : List ℕ) → position_or_len is_end bytes < length bytes
-    → lines_of bytes ≡ take (position_or_len is_end bytes) bytes ∷ lines_of (drop (position_or_len is_end bytes + 1) bytes)
+    → lines_of bytes ≡ take (position_or_len is_end bytes) bytes
+    ∷ lines_of (drop (position_or_len is_end bytes + 1) bytes)
 unfolding lines_of
 lines-before_end [] h = absurd (omega arith)
 lines-before_end (byte ∷ bytes) h = grind (arith, common_steps, lines-before_end bytes)
@@ -23,12 +25,15 @@ behind-end [] h = absurd (omega arith)
 behind-end (byte ∷ bytes) h = grind (arith, common_steps, behind-end bytes)
 
 -- where none stands, all is the first line
-lines-without_end : (byte : ℕ) (bytes : List ℕ) → length (byte ∷ bytes) ≤ position_or_len is_end (byte ∷ bytes) → lines_of (byte ∷ bytes) ≡ (byte ∷ bytes) ∷ []
+lines-without_end : (byte : ℕ) (bytes : List ℕ)
+    → length (byte ∷ bytes) ≤ position_or_len is_end (byte ∷ bytes)
+    → lines_of (byte ∷ bytes) ≡ (byte ∷ bytes) ∷ []
 unfolding lines_of
 lines-without_end byte [] h = grind (arith, common_steps)
 lines-without_end byte (next ∷ bytes) h = grind (arith, common_steps, lines-without_end next bytes)
 
-behind-no_end : (bytes : List ℕ) → length bytes ≤ position_or_len is_end bytes → behind_lines 1 bytes ≡ []
+behind-no_end : (bytes : List ℕ) → length bytes ≤ position_or_len is_end bytes
+    → behind_lines 1 bytes ≡ []
 unfolding behind_lines
 behind-no_end [] h = refl
 behind-no_end (byte ∷ bytes) h = grind (arith, common_steps, behind-no_end bytes)
@@ -39,24 +44,32 @@ not_true : (b : Bool) → ¬ (b ≡ true) → b ≡ false
 not_true true never = absurd (never refl)
 not_true false never = refl
 
-pub first-is_position : (bytes : List ℕ) (found : Option ℕ) → IsFirstByte (is_byte 10) bytes found → found ≡ position is_end bytes
+pub first-is_position : (bytes : List ℕ) (found : Option ℕ) → IsFirstByte (is_byte 10) bytes found
+    → found ≡ position is_end bytes
 first-is_position bytes None nowhere =
-    let none = position_or_len_is is_end bytes (length bytes) 0 (omega arith) (λ k lt. not_true (is_end (get_or bytes k 0)) (nowhere k (omega arith) lt)) (λ lt. absurd (omega arith)) in
+    let none = position_or_len_is is_end bytes (length bytes) 0 (omega arith)
+    (λ k lt. not_true (is_end (get_or bytes k 0)) (nowhere k (omega arith) lt))
+    (λ lt. absurd (omega arith)) in
     grind (arith, common_steps)
 first-is_position bytes (Some end) first =
-    let at = position_or_len_is is_end bytes end 0 (omega (arith, first.0.high)) (λ k lt. not_true (is_end (get_or bytes k 0)) (first.0.before k (omega arith) lt)) (λ lt. first.1) in
+    let at = position_or_len_is is_end bytes end 0 (omega (arith, first.0.high))
+    (λ k lt. not_true (is_end (get_or bytes k 0)) (first.0.before k (omega arith) lt))
+    (λ lt. first.1) in
     let lt = first.0.high in
     grind (arith, common_steps)
 
 -- ---- by the place that a search for a line end gives
 
-pub lines-Some : (bytes : List ℕ) (end : ℕ) → Some end ≡ position is_end bytes → lines_of bytes ≡ take end bytes ∷ lines_of (drop (end + 1) bytes)
+pub lines-Some : (bytes : List ℕ) (end : ℕ) → Some end ≡ position is_end bytes
+    → lines_of bytes ≡ take end bytes ∷ lines_of (drop (end + 1) bytes)
 lines-Some bytes end found = grind (arith, common_steps, lines-before_end bytes)
 
-pub behind-Some : (bytes : List ℕ) (end : ℕ) → Some end ≡ position is_end bytes → behind_lines 1 bytes ≡ drop (end + 1) bytes
+pub behind-Some : (bytes : List ℕ) (end : ℕ) → Some end ≡ position is_end bytes
+    → behind_lines 1 bytes ≡ drop (end + 1) bytes
 behind-Some bytes end found = grind (arith, common_steps, behind-end bytes)
 
-pub lines-None : (bytes : List ℕ) → 1 ≤ length bytes → None ≡ position is_end bytes → lines_of bytes ≡ bytes ∷ lines_of []
+pub lines-None : (bytes : List ℕ) → 1 ≤ length bytes → None ≡ position is_end bytes
+    → lines_of bytes ≡ bytes ∷ lines_of []
 unfolding lines_of
 lines-None [] some found = absurd (omega arith)
 lines-None (byte ∷ bytes) some found = grind (arith, common_steps, lines-without_end byte bytes)

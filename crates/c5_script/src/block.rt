@@ -4,7 +4,7 @@ use crate::blocks::ReadBlock;
 use crate::bodies::Body;
 
 /// The open block.
-#[derive(Debug, Drop)]
+#[derive(Drop)]
 pub(crate) enum OpenBlock {
     /// None is open.
     Outside,

@@ -13,7 +13,7 @@ use std::alloc::Global;
 use std::marker::Model;
 
 /// What a session asks for at once: 1 to 16 lines. Sessions count from 1, to 16.
-#[derive(Debug, Drop)]
+#[derive(Drop)]
 pub struct ReadBlock {
     session: u32,
     lines: Vec<ReadLine>,

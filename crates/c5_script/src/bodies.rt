@@ -13,7 +13,7 @@ use std::alloc::Global;
 use std::marker::Model;
 
 /// The statements of a transaction, in order: 0 to 256.
-#[derive(Debug, Drop)]
+#[derive(Drop)]
 pub struct Body {
     statements: Vec<Statement>,
 }

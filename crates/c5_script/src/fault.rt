@@ -7,7 +7,7 @@ use c5_definitions::ScriptKind;
 use c5_rows::NoMemory;
 
 /// Why a line was not taken.
-#[derive(Clone, Copy, Debug, PartialEq, Eq)]
+#[derive(Clone, Copy, PartialEq, Eq)]
 pub(crate) enum LineError {
     /// The kind of the first test that the line fails.
     Fault(ScriptKind),

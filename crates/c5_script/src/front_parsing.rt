@@ -16,7 +16,7 @@ use c5_definitions::{ScriptFault, ScriptKind};
 use std::alloc::Global;
 
 /// A script, and what follows the line that ends it.
-#[derive(Debug, Drop)]
+#[derive(Drop)]
 pub struct Front<'a> {
     pub script: Script,
     /// The bytes after the `log` line.

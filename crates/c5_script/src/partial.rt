@@ -22,7 +22,7 @@ use std::marker::Model;
 use std::mem;
 
 /// What has been read of a script so far.
-#[derive(Debug, Drop)]
+#[derive(Drop)]
 pub(crate) struct PartialScript {
     alloc: Global,
     // `None` before the first table.
@@ -42,7 +42,7 @@ impl Model for PartialScript {
 }
 
 /// Whether a line ended the script.
-#[derive(Clone, Copy, Debug, PartialEq, Eq)]
+#[derive(Clone, Copy, PartialEq, Eq)]
 pub(crate) enum Taken {
     /// The script goes on after the line.
     More,

@@ -16,7 +16,7 @@ use std::marker::Model;
 
 /// Tables, bodies of transactions, read blocks and a schedule. Every name, row and column fits the
 /// tables.
-#[derive(Debug, Drop)]
+#[derive(Drop)]
 pub struct Script {
     schema: Schema,
     bodies: Vec<Body>,

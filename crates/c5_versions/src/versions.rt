@@ -21,7 +21,7 @@ pub struct Version {
 }
 
 /// The versions of one row, strictly ascending by `wrote`. The first has `wrote` 0.
-#[derive(Debug, Drop)]
+#[derive(Drop)]
 pub struct Versions {
     versions: Vec<Version>,
 }

@@ -7,4 +7,6 @@ pub loop-stamp-preserved : goal.loop-stamp-preserved
 loop-stamp-preserved c =
     let next = c.loop-stamp.stamp + 1 in
     rw (c.insert.ensures.versions, c.in_ok-reserve.ensures.versions)
-    (All-put (λ v. v.wrote < next) _ _ (omega arith) (All-weaker (λ v. v.wrote < c.loop-stamp.stamp) (λ v. v.wrote < next) (λ v h. omega arith) _ c.loop-stamp.invariant))
+    (All-put (λ v. v.wrote < next) _ _ (omega arith)
+    (All-weaker (λ v. v.wrote < c.loop-stamp.stamp) (λ v. v.wrote < next)
+    (λ v h. omega arith) _ c.loop-stamp.invariant))

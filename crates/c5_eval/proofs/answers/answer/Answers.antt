@@ -14,7 +14,9 @@ loop-line-preserved g c =
       rounds = (
         rounds.0 ++ answered.0,
         read_on _ rounds.0 answered.0 _ _ rounds.1 answered.1,
-        rw c.in_ok-push-in-Ok.ensures.ok (rounds_on _ _ c.line-item.result rounds.0 answered.0 c.loop-line.answer c.in-Ok.line c.loop-line-test.true c.line-item.is answered.2 answered.3 rounds.2),
+        rw c.in_ok-push-in-Ok.ensures.ok
+            (rounds_on _ _ c.line-item.result rounds.0 answered.0 c.loop-line.answer c.in-Ok.line
+            c.loop-line-test.true c.line-item.is answered.2 answered.3 rounds.2),
       );
       base = search rules;
       refusals = search rules;
@@ -24,5 +26,9 @@ loop-line-preserved g c =
 pub returns-clause-answered : goal.returns-clause-answered
 returns-clause-answered g c =
     let before = c.loop-line.invariant in
-    let rounds = before.rounds in
-    (rounds.0, rounds.1, subst (λ (ls : List ReadLine). IsAnswered ls rounds.0 c.loop-line.answer) before.items (rounds_end _ _ rounds.0 c.loop-line.answer c.loop-line-test.false rounds.2))
+    let rounds = before.rounds in (
+      rounds.0,
+      rounds.1,
+      subst (λ (ls : List ReadLine). IsAnswered ls rounds.0 c.loop-line.answer) before.items
+          (rounds_end _ _ rounds.0 c.loop-line.answer c.loop-line-test.false rounds.2),
+    )

@@ -11,5 +11,7 @@ returns-in-Ok g c =
     let reader = c.answer.new.rows in
     let answered = c.in-Ok.ensures.answered in
     answers_same c.args.read.now (state c.args.rows.now) answered.0 c.in-Ok.answer answered.2
-    (answered_since (state c.args.rows.now) (state (rows_read made)) (state (rows_read reader)) (names_asked made) (names_asked reader) answered.0
-    (ap state c.new-reader.ensures.rows) c.new-reader.ensures.asked c.answer.ensures.base answered.1)
+    (answered_since (state c.args.rows.now) (state (rows_read made)) (state (rows_read reader))
+    (names_asked made) (names_asked reader) answered.0
+    (ap state c.new-reader.ensures.rows) c.new-reader.ensures.asked c.answer.ensures.base
+    answered.1)

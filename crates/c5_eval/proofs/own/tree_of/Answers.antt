@@ -13,6 +13,9 @@ loop-done-preserved c =
     let same : i ≡ length writes - (done + 1) = omega (arith, c.loop-done-test.true) in
     record {
       ordered = c.in_ok-put.ensures.ordered;
-      same = tree-further writes i (length writes - done) c.index-writes-writes.result c.loop-done.tree.entries c.put.new.values.entries lt next c.index-writes-writes.is c.loop-done.invariant.same c.in_ok-put.ensures.set
+      same = tree-further writes i
+          (length writes - done) c.index-writes-writes.result c.loop-done.tree.entries
+          c.put.new.values.entries lt next c.index-writes-writes.is c.loop-done.invariant.same
+          c.in_ok-put.ensures.set
           ∙ ap (λ (n : ℕ). set_by (pairs_of (drop n writes))) same;
     }

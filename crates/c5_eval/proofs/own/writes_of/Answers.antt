@@ -13,4 +13,7 @@ loop-name-init c =
 pub loop-name-preserved : goal.loop-name-preserved
 loop-name-preserved c =
     rw c.in_ok-set.ensures.ok
-    (next_write (set_by c.args.tree.now.entries) c.loop-name.writes c.loop-name.name-iterator c.next.new.self c.in-Some.name.now c.in-Some.change.now c.in-Some.ensures.steps c.loop-name.invariant)
+    (next_write
+    (set_by c.args.tree.now.entries) c.loop-name.writes c.loop-name.name-iterator
+    c.next.new.self c.in-Some.name.now c.in-Some.change.now c.in-Some.ensures.steps
+    c.loop-name.invariant)

@@ -6,4 +6,5 @@ use Rattle.c5_eval.proofs.own.writes_of.Given as goal
 
 -- the writes so far and those to come are all of them
 abbrev pub invariant-loop-name : goal.invariant-loop-name
-invariant-loop-name l = l.writes ++ map write_at l.name-iterator ≡ own_writes (set_by l.tree.entries)
+invariant-loop-name l = l.writes ++ map write_at l.name-iterator
+    ≡ own_writes (set_by l.tree.entries)

@@ -16,8 +16,12 @@ behind_cell-rest-requires c =
     let i = c.loop-cell_type.cell_type-index in
     let near : i < c.args.col = omega (arith, length-take c.args.col columns) in
     let within : i < length columns = omega (arith, length-take c.args.col columns) in
-    let n = next-cell columns i _ c.loop-cell_type.rest.now (cells_held columns c.args.bytes.now) within c.loop-cell_type.invariant in
-    ((n.cell, n.after), ap (λ (t : CellType). cell_at t c.loop-cell_type.rest.now) (get_or-take c.args.col columns i _ near) ∙ n.read)
+    let n = next-cell columns i _ c.loop-cell_type.rest.now
+    (cells_held columns c.args.bytes.now) within c.loop-cell_type.invariant in (
+      (n.cell, n.after),
+      ap (λ (t : CellType). cell_at t c.loop-cell_type.rest.now)
+          (get_or-take c.args.col columns i _ near) ∙ n.read,
+    )
 
 pub loop-cell_type-preserved : goal.loop-cell_type-preserved
 loop-cell_type-preserved c =
@@ -25,5 +29,7 @@ loop-cell_type-preserved c =
     let i = c.loop-cell_type.cell_type-index in
     let near : i < c.args.col = omega (arith, length-take c.args.col columns) in
     let within : i < length columns = omega (arith, length-take c.args.col columns) in
-    next-behind columns i _ c.loop-cell_type.rest.now c.behind_cell-rest.result.now (cells_held columns c.args.bytes.now) within c.loop-cell_type.invariant
-    (ap (λ (t : CellType). unread (cell_at t c.loop-cell_type.rest.now)) (sym (get_or-take c.args.col columns i _ near)) ∙ c.behind_cell-rest.ensures)
+    next-behind columns i _ c.loop-cell_type.rest.now c.behind_cell-rest.result.now
+    (cells_held columns c.args.bytes.now) within c.loop-cell_type.invariant
+    (ap (λ (t : CellType). unread (cell_at t c.loop-cell_type.rest.now))
+    (sym (get_or-take c.args.col columns i _ near)) ∙ c.behind_cell-rest.ensures)

@@ -8,7 +8,8 @@ pub first_cell-first-requires : goal.first_cell-first-requires
 first_cell-first-requires c =
     let columns = c.args.columns.now in
     let bytes = c.args.bytes.now in
-    let n = next-cell columns 0 _ bytes (cells_held columns bytes) c.requires.some (row-start columns bytes c.requires.row) in
+    let n = next-cell columns 0 _ bytes (cells_held columns bytes) c.requires.some
+    (row-start columns bytes c.requires.row) in
     ((n.cell, n.after), n.read)
 
 pub loop-column-init : goal.loop-column-init
@@ -17,7 +18,8 @@ loop-column-init c =
     let bytes = c.args.bytes.now in
     let total = cells_held columns bytes in
     let cell = c.first_cell-first.result.0 in
-    let n = next-read columns 0 _ bytes c.first_cell-first.result.1.now cell total c.requires.some (row-start columns bytes c.requires.row) c.first_cell-first.ensures in
+    let n = next-read columns 0 _ bytes c.first_cell-first.result.1.now cell total c.requires.some
+    (row-start columns bytes c.requires.row) c.first_cell-first.ensures in
     record {
       some = omega arith;
       left = n.1;
@@ -26,7 +28,9 @@ loop-column-init c =
 
 pub first_cell-cell-requires : goal.first_cell-cell-requires
 first_cell-cell-requires c =
-    let n = next-cell c.args.columns.now c.loop-column.column _ c.loop-column.rest.now (cells_held c.args.columns.now c.args.bytes.now) c.loop-column-test.true c.loop-column.invariant.left in
+    let n = next-cell c.args.columns.now c.loop-column.column _ c.loop-column.rest.now
+    (cells_held c.args.columns.now c.args.bytes.now) c.loop-column-test.true
+    c.loop-column.invariant.left in
     ((n.cell, n.after), n.read)
 
 pub loop-column-preserved : goal.loop-column-preserved
@@ -35,11 +39,13 @@ loop-column-preserved c =
     let i = c.loop-column.column in
     let cell = c.first_cell-cell.result.0 in
     let so_far = c.loop-column.invariant in
-    let n = next-read c.args.columns.now i _ c.loop-column.rest.now c.first_cell-cell.result.1.now cell total c.loop-column-test.true so_far.left c.first_cell-cell.ensures in
+    let n = next-read c.args.columns.now i _ c.loop-column.rest.now c.first_cell-cell.result.1.now
+    cell total c.loop-column-test.true so_far.left c.first_cell-cell.ensures in
     record {
       some = omega arith;
       left = n.1;
-      built = c.push.ensures ∙ ap (λ (front : List Cell). front ++ cell ∷ []) so_far.built ∙ sym (take-next total i cell _ n.0);
+      built = c.push.ensures ∙ ap (λ (front : List Cell). front ++ cell ∷ []) so_far.built ∙ sym
+          (take-next total i cell _ n.0);
     }
 
 pub returns : goal.returns

@@ -7,6 +7,7 @@ use Rattle.c5_frames.proofs.cells.row_in.Given as goal
 abbrev pub invariant-loop-column : goal.invariant-loop-column
 invariant-loop-column l = record {
   some : 1 ≤ l.column;
-  left : cells_at (drop l.column l.columns) l.rest ≡ Ok (drop l.column (cells_held l.columns l.bytes), []);
+  left : cells_at (drop l.column l.columns) l.rest
+      ≡ Ok (drop l.column (cells_held l.columns l.bytes), []);
   built : l.row ≡ take l.column (cells_held l.columns l.bytes);
 }

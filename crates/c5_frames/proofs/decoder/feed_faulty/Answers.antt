@@ -4,9 +4,13 @@ use Rattle.c5_frames.proofs.Fed.{fault-stays}
 use Rattle.c5_frames.proofs.decoder.feed_faulty.Goals as goal
 
 pub returns-in-Ok-clause-feeds : goal.returns-in-Ok-clause-feeds
-returns-in-Ok-clause-feeds c =
-    (c.in-Ok.ensures.items, ap (after_bytes at_start) c.in-Ok.ensures.items ∙ fault-stays c.args.bytes.now.items c.args.piece.now c.args.found c.requires.fault)
+returns-in-Ok-clause-feeds c = (
+  c.in-Ok.ensures.items,
+  ap (after_bytes at_start) c.in-Ok.ensures.items ∙ fault-stays c.args.bytes.now.items
+      c.args.piece.now c.args.found c.requires.fault,
+)
 
 pub returns-in-Ok-clause-fault : goal.returns-in-Ok-clause-fault
 returns-in-Ok-clause-fault c =
-    ap (after_bytes at_start) c.in-Ok.ensures.items ∙ fault-stays c.args.bytes.now.items c.args.piece.now c.args.found c.requires.fault
+    ap (after_bytes at_start) c.in-Ok.ensures.items ∙ fault-stays c.args.bytes.now.items
+    c.args.piece.now c.args.found c.requires.fault

@@ -5,4 +5,5 @@ use Rattle.c5_frames.proofs.encoding.push_header.Given as goal
 
 -- what is written and the tables that are left make the whole
 abbrev pub invariant-loop-table : goal.invariant-loop-table
-invariant-loop-table l = l.out.items ++ flat_map spelled_table (drop l.table-index l.tables) ≡ l.initial.out.items ++ flat_map spelled_table l.tables
+invariant-loop-table l = l.out.items ++ flat_map spelled_table (drop l.table-index l.tables)
+    ≡ l.initial.out.items ++ flat_map spelled_table l.tables

@@ -24,4 +24,5 @@ pub returns-clause-key : goal.returns-clause-key
 returns-clause-key c = λ tables w e.
     let n = get_or c.args.payload.now 2 0 in
     let size : 3 + n - 3 ≡ n = omega arith in
-    ap (λ (k : ℕ). take k (drop 3 c.args.payload.now)) size ∙ (written tables c.args.payload.now w e).key
+    ap (λ (k : ℕ). take k (drop 3 c.args.payload.now)) size ∙
+    (written tables c.args.payload.now w e).key

@@ -10,8 +10,12 @@ loop-filled-preserved g c =
     record {
       within = search rules;
       short = search rules;
-      taken = rw (with_items_is c.make_room.new.bytes c.read_tail.new.bytes (search (rules, places)))
-          (consumes_filled _ _ _ c.loop-filled.bytes.items c.make_room.new.bytes.items c.read_tail.new.bytes c.loop-filled.filled c.in_ok-count.count
-          c.make_room.ensures.front (read.front ∙ ap (take c.loop-filled.filled) c.as_mut_slice.ensures.value) before.taken read.ok);
+      taken = rw
+          (with_items_is c.make_room.new.bytes c.read_tail.new.bytes (search (rules, places)))
+          (consumes_filled _ _ _ c.loop-filled.bytes.items c.make_room.new.bytes.items
+          c.read_tail.new.bytes c.loop-filled.filled c.in_ok-count.count
+          c.make_room.ensures.front
+          (read.front ∙ ap (take c.loop-filled.filled) c.as_mut_slice.ensures.value)
+          before.taken read.ok);
       faults = search rules;
     }

@@ -6,7 +6,8 @@ abbrev pub invariant-loop-filled : goal.invariant-loop-filled
 invariant-loop-filled g l = record {
   within : l.filled ≤ vec_len l.bytes;
   short : vec_len l.bytes ≤ l.limit + 1;
-  taken : Consumes (g.S.Source.left l.initial.source) (g.S.Source.left l.source) (take l.filled l.bytes.items);
+  taken : Consumes (g.S.Source.left l.initial.source) (g.S.Source.left l.source)
+      (take l.filled l.bytes.items);
   faults : g.S.Source.faults l.source ≡ g.S.Source.faults l.initial.source;
 }
 

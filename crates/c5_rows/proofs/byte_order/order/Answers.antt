@@ -10,8 +10,11 @@ returns-then-x-y c =
     let b = c.args.b.now in
     let same = c.requires in
     c.cmp.ensures
-    ∙ words_differ (8 * c.loop-place.place) c.word-x.result c.word-y.result a b (omega (arith, c.loop-place-test.true)) (omega (arith, c.loop-place-test.true, same)) c.type_inv.a c.type_inv.b
-    c.word-x.ensures c.word-y.ensures c.loop-place.invariant c.if-x-y.true (nat_cmp c.args.a_len c.args.b_len)
+    ∙ words_differ (8 * c.loop-place.place) c.word-x.result c.word-y.result a b
+    (omega (arith, c.loop-place-test.true))
+    (omega (arith, c.loop-place-test.true, same)) c.type_inv.a c.type_inv.b
+    c.word-x.ensures c.word-y.ensures c.loop-place.invariant c.if-x-y.true
+    (nat_cmp c.args.a_len c.args.b_len)
 
 pub loop-place-preserved : goal.loop-place-preserved
 loop-place-preserved c =
@@ -20,6 +23,8 @@ loop-place-preserved c =
     let same = c.requires in
     let place = c.loop-place.place in
     let next : 8 * place + 8 ≡ 8 * (place + 1) = omega arith in
-    words_same (8 * place) c.word-x.result c.word-y.result a b (omega (arith, c.loop-place-test.true)) (omega (arith, c.loop-place-test.true, same)) c.type_inv.a c.type_inv.b
+    words_same (8 * place) c.word-x.result c.word-y.result a b
+    (omega (arith, c.loop-place-test.true))
+    (omega (arith, c.loop-place-test.true, same)) c.type_inv.a c.type_inv.b
     c.word-x.ensures c.word-y.ensures c.loop-place.invariant c.if-x-y.false
     ∙ ap (λ at. slice_cmp nat_cmp (drop at a) (drop at b)) next

@@ -5,4 +5,5 @@ use Rattle.c5_rows.proofs.byte_order.order.Given as goal
 
 -- the words so far are the same
 abbrev pub invariant-loop-place : goal.invariant-loop-place
-invariant-loop-place l = slice_cmp nat_cmp l.a l.b ≡ slice_cmp nat_cmp (drop (8 * l.place) l.a) (drop (8 * l.place) l.b)
+invariant-loop-place l = slice_cmp nat_cmp l.a l.b
+    ≡ slice_cmp nat_cmp (drop (8 * l.place) l.a) (drop (8 * l.place) l.b)

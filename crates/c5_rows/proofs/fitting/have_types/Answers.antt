@@ -11,6 +11,9 @@ loop-column-preserved c =
     let cell = c.index-cells-column.result in
     let within : i < length types = omega arith in
     let within_mapped : i < length (map type_of cells) = omega (arith, length-map cells type_of) in
-    let same : type_of cell ≡ get_or types i (type_of cell) = c.if-not-has_type.ensures.0 refl ∙ get_or_default types i _ (type_of cell) within in
-    take_more_same (map type_of cells) types i (type_of cell) within_mapped within c.loop-column.invariant
-    (get_or-map type_of cells i cell (type_of cell) c.loop-column-test.true ∙ ap type_of (sym c.index-cells-column.is) ∙ same)
+    let same : type_of cell ≡ get_or types i (type_of cell) =
+    c.if-not-has_type.ensures.0 refl ∙ get_or_default types i _ (type_of cell) within in
+    take_more_same (map type_of cells) types i
+    (type_of cell) within_mapped within c.loop-column.invariant
+    (get_or-map type_of cells i cell (type_of cell) c.loop-column-test.true ∙ ap type_of
+    (sym c.index-cells-column.is) ∙ same)

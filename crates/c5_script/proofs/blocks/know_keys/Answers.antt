@@ -10,7 +10,8 @@ loop-key-preserved c =
     let keys = c.args.keys.now in
     let i = c.loop-key.key-index in
     let key = c.key-item.result in
-    All-more IsKey keys i key c.loop-key-test.true c.loop-key.invariant (subst IsKey c.key-item.is c.know_key.ensures)
+    All-more IsKey keys i key c.loop-key-test.true c.loop-key.invariant
+    (subst IsKey c.key-item.is c.know_key.ensures)
 
 pub returns : goal.returns
 returns c =

@@ -10,11 +10,13 @@ loop-cell-preserved c =
     let cells = c.args.cells.now in
     let i = c.loop-cell.cell-index in
     let cell = c.cell-item.result in
-    All-more IsLawfulCell cells i cell c.loop-cell-test.true c.loop-cell.invariant (subst IsLawfulCell c.cell-item.is c.know_cell.ensures)
+    All-more IsLawfulCell cells i cell c.loop-cell-test.true c.loop-cell.invariant
+    (subst IsLawfulCell c.cell-item.is c.know_cell.ensures)
 
 pub returns : goal.returns
 returns c =
     let cells = c.args.cells.now in
     let i = c.loop-cell.cell-index in
     let past : length cells ≤ i = omega arith in
-    recursion_from_All IsLawfulCell cells (subst (All IsLawfulCell) (take_all i cells past) c.loop-cell.invariant)
+    recursion_from_All IsLawfulCell cells
+    (subst (All IsLawfulCell) (take_all i cells past) c.loop-cell.invariant)

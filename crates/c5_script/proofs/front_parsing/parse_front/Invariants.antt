@@ -5,7 +5,8 @@ use Rattle.c5_definitions.specs.Script.{front_from}
 use Rattle.c5_script.proofs.front_parsing.parse_front.Given as goal
 
 -- reading on from here gives the whole
-pub record ReadsOn (bytes : List ℕ) (number : ℕ) (script : ScriptSoFar) (rest : List ℕ) : Type 0 where
+pub record ReadsOn (bytes : List ℕ) (number : ℕ) (script : ScriptSoFar)
+    (rest : List ℕ) : Type 0 where
   pub whole : front_from 1 script_start (lines_of bytes) ≡ front_from number script (lines_of rest)
   pub behind : behind_lines (number - 1) bytes ≡ rest
   pub some : 1 ≤ number

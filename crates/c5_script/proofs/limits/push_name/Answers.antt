@@ -7,6 +7,8 @@ use Rattle.c5_script.proofs.limits.push_name.Goals as goal
 
 pub returns-then-is_same-clause-names : goal.returns-then-is_same-clause-names
 returns-then-is_same-clause-names c =
-    let lt : get_or c.args.places.now c.slot_of-slot.result 0 < length c.args.names.now.items = omega arith in
+    let lt : get_or c.args.places.now c.slot_of-slot.result 0 < length c.args.names.now.items =
+    omega arith in
     is_row-held c.args.names.now.items _ c.index.result.now c.args.name lt
-    (ap (λ (held : RowName). eq_by_cmp row_name_cmp held c.args.name) (sym c.index.ensures) ∙ sym c.if-is_same.ensures)
+    (ap (λ (held : RowName). eq_by_cmp row_name_cmp held c.args.name)
+    (sym c.index.ensures) ∙ sym c.if-is_same.ensures)

@@ -7,4 +7,8 @@ use Rattle.c5_script.proofs.limits.push_names.Given as goal
 
 -- with those that are left the names are all
 abbrev pub invariant-loop-statement : goal.invariant-loop-statement
-invariant-loop-statement l = (length l.places ≡ 131072) × ((q : RowName) → (is_row l.names.items q || is_row (filter_map written_name (drop l.statement-index l.statements)) q) ≡ (is_row l.initial.names.items q || is_row (filter_map written_name l.statements) q))
+invariant-loop-statement l = (length l.places ≡ 131072)
+    × ((q : RowName)
+    → (is_row l.names.items q || is_row
+    (filter_map written_name (drop l.statement-index l.statements)) q)
+    ≡ (is_row l.initial.names.items q || is_row (filter_map written_name l.statements) q))

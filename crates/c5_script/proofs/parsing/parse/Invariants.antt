@@ -5,7 +5,8 @@ use Rattle.c5_definitions.specs.Script.{script_from, script_of}
 use Rattle.c5_script.proofs.parsing.parse.Given as goal
 
 -- reading on from here gives the whole
-pub record ReadsOn (bytes : List ℕ) (number : ℕ) (script : ScriptSoFar) (rest : List ℕ) : Type 0 where
+pub record ReadsOn (bytes : List ℕ) (number : ℕ) (script : ScriptSoFar)
+    (rest : List ℕ) : Type 0 where
   pub whole : script_of bytes ≡ script_from number script (lines_of rest)
   pub within : number + length rest ≤ length bytes + 1
 

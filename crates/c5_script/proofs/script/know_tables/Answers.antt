@@ -10,11 +10,13 @@ loop-table-preserved c =
     let tables = c.args.tables.now in
     let i = c.loop-table.table-index in
     let table = c.table-item.result in
-    All-more IsLawfulTable tables i table c.loop-table-test.true c.loop-table.invariant (subst IsLawfulTable c.table-item.is c.know_table.ensures)
+    All-more IsLawfulTable tables i table c.loop-table-test.true c.loop-table.invariant
+    (subst IsLawfulTable c.table-item.is c.know_table.ensures)
 
 pub returns : goal.returns
 returns c =
     let tables = c.args.tables.now in
     let i = c.loop-table.table-index in
     let past : length tables ≤ i = omega arith in
-    recursion_from_All IsLawfulTable tables (subst (All IsLawfulTable) (take_all i tables past) c.loop-table.invariant)
+    recursion_from_All IsLawfulTable tables
+    (subst (All IsLawfulTable) (take_all i tables past) c.loop-table.invariant)

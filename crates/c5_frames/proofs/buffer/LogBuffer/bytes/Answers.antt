@@ -11,4 +11,5 @@ returns-clause-spelled c =
     let same = c.deref.ensures.value in
     subst (λ (l : Log). Spells l.bytes l.tables l.txns) c.self.view_is
     (subst (λ (bytes : List ℕ). Spells bytes b.schema (txns_in b.bytes.items)) same
-    (c.spells.ensures (record { tables = b.schema; txns = txns_in b.bytes.items }) (ap log_of same ∙ c.self.invariant.log)))
+    (c.spells.ensures (record { tables = b.schema; txns = txns_in b.bytes.items })
+    (ap log_of same ∙ c.self.invariant.log)))

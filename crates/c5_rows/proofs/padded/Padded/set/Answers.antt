@@ -8,7 +8,8 @@ invariant_of-self g c =
     let len = c.self.inside.len in
     let items = c.self.inside.items in
     let is = length-of_padded g.T.Blank.blank_value g.row.N len items c.self.invariant in
-    IsPadded-front g.T.Blank.blank_value g.row.N len (set (take len items) c.args.at c.args.item) items
+    IsPadded-front g.T.Blank.blank_value g.row.N len
+    (set (take len items) c.args.at c.args.item) items
     (length-set (take len items) c.args.at c.args.item ∙ is) c.self.invariant
 
 pub returns : goal.returns
@@ -16,5 +17,6 @@ returns g c =
     let len = c.self.inside.len in
     let items = c.self.inside.items in
     let is = length-of_padded g.T.Blank.blank_value g.row.N len items c.self.invariant in
-    take-front len (set (take len items) c.args.at c.args.item) items (length-set (take len items) c.args.at c.args.item ∙ is)
+    take-front len (set (take len items) c.args.at c.args.item) items
+    (length-set (take len items) c.args.at c.args.item ∙ is)
     ∙ ap (λ cells. set cells c.args.at c.args.item) c.self.view_is

@@ -10,10 +10,12 @@ loop-applied-preserved c =
     let write = c.write-item.result in
     let same = c.loop-applied.invariant.0 in
     let within : i < length writes = omega (arith, ap length same) in
-    let item : write ≡ get_or writes i write = c.write-item.is ∙ ap (λ ws. get_or ws i write) same in (
+    let item : write ≡ get_or writes i write =
+    c.write-item.is ∙ ap (λ ws. get_or ws i write) same in (
       same,
       c.in-Ok.ensures.ok
           ∙ ap (after_change write.name write.change) c.loop-applied.invariant.1
-          ∙ ap (λ w. after_change w.name w.change (after_writes (take i writes) c.args.self.now)) item
+          ∙ ap (λ w. after_change w.name w.change (after_writes (take i writes) c.args.self.now))
+          item
           ∙ sym (after_writes-more writes i write c.args.self.now within),
     )

@@ -8,4 +8,6 @@ pub returns : goal.returns
 returns g c =
     let row = g.H.HeldRow.row_held in
     let es = c.self.inside.rows.entries in
-    c.len.ensures.len ∙ sym (len_back (rows_held row es) (up_held row es c.self.invariant) ∙ length_held row es) ∙ ap (λ m. map.len m) c.self.view_is
+    c.len.ensures.len ∙ sym
+    (len_back (rows_held row es) (up_held row es c.self.invariant) ∙ length_held row es) ∙ ap
+    (λ m. map.len m) c.self.view_is

@@ -11,4 +11,7 @@ loop-name-init g c =
     let es = c.self.inside.rows.entries in
     let all : c.into_iter-name-iterator.result ≡ es = cc in
     rw c.in_ok-list.ensures.items
-    (ap (map entry_of) (ap (rows_held row) all ∙ sym (entries_back (rows_held row es) (up_held row es c.self.invariant)) ∙ ap entries c.self.view_is))
+    (ap (map entry_of)
+    (ap (rows_held row) all ∙ sym
+    (entries_back (rows_held row es) (up_held row es c.self.invariant)) ∙ ap entries
+    c.self.view_is))

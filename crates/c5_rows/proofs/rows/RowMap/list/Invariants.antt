@@ -5,4 +5,5 @@ use Rattle.c5_rows.proofs.rows.RowMap.list.Given as goal
 
 -- the entries so far and those that are left are all of them
 abbrev pub invariant-loop-name : goal.invariant-loop-name
-invariant-loop-name g l = l.list.items ++ map entry_of (rows_held g.H.HeldRow.row_held l.name-iterator) ≡ rows_of l.self
+invariant-loop-name g l = l.list.items
+    ++ map entry_of (rows_held g.H.HeldRow.row_held l.name-iterator) ≡ rows_of l.self
