@@ -1,5 +1,5 @@
 """Times a command of `c5` beside another program on the same files, the best of several runs, and prints the rows of
-README.md's table: `python3 bench/command.py FOLDER apply|primary|pages`. With `pages` it times both commands with and
+docs/BENCHMARKS.md's table: `python3 bench/command.py FOLDER apply|primary|pages`. With `pages` it times both commands with and
 without the large pages that the script `c5` asks the C library for."""
 import os
 import subprocess
@@ -21,6 +21,7 @@ FILES = {
         "transfers.c5s": "transfers between 64 accounts",
         "texts.c5s": "16 tables with texts",
         "puts.c5s": "262,144 puts, 256 a transaction, keys in falling order",
+        "small.c5s": "65,536 transactions, most of 2 additions, 30,000 rows",
     },
 }
 # As the script `c5` runs the program.

@@ -5,6 +5,7 @@ It also fails if the inputs of its seed never give some kind of fault or some st
 changed order of two tests: for each pair of tests that one item of a log or one line of a script can fail both, some
 input must do so."""
 import collections
+import glob
 import os
 import random
 import subprocess
@@ -22,7 +23,11 @@ LIMIT_LINES = ["transactions", "writes", "rows"]
 ANSWERS = ([("apply", "ok"), ("primary", "ok"), ("apply", "too long"), ("primary", "too long")]
            + [("apply", f"bad log {kind}") for kind in LOG_KINDS] + [("primary", f"bad script {kind}") for kind in SCRIPT_KINDS]
            + [("primary", f"limit {line}") for line in LIMIT_LINES]
-           + [("words", "bad words"), ("apply", "read fails"), ("primary", "read fails"), ("apply", "write fails"), ("primary", "write fails")])
+           + [(command, f"{what} fails") for command in ("apply", "primary", "backup", "clone") for what in ("read", "write")]
+           + [("words", "bad words"), ("clone", "ok"), ("clone", "too long"), ("backup", "ok"), ("backup", "too long")]
+           + [("clone", f"bad script {kind}") for kind in SCRIPT_KINDS] + [("backup", f"bad script {kind}") for kind in SCRIPT_KINDS]
+           + [("backup", f"bad log {kind}") for kind in LOG_KINDS] + [("clone", f"limit {line}") for line in LIMIT_LINES]
+           + [("backup", f"limit {line}") for line in LIMIT_LINES])
 
 # Pairs of tests that one item or line can fail both, the one that comes first first.
 FRAME_PAIRS = [("length", "cut"), ("length", "kind"), ("table", "key"), ("table", "cell"), ("key", "cell"), ("key", "order"),
@@ -298,20 +303,62 @@ def wide_script(rand):
     return ("\n".join(lines) + "\n").encode()
 
 
+# A script whose transactions read and write few rows, so that they conflict if they run at the same time.
+def contended(rand):
+    keys = [f"k{number}" for number in range(rand.choice((1, 2, 6)))]
+    lines = ["table t int"]
+    for number in range(rand.choice((20, 100, 300))):
+        key, other = rand.choice(keys), rand.choice(keys)
+        lines += ["txn", *rand.choice(([f"put t {key} {number}"], [f"copy t {key} {other}"], [f"del t {key}", f"copy t {other} {key}"],
+                                       [f"need t {key} 0 ge {number % 7}", f"add t {key} 0 -1", f"add t {other} 0 1"],
+                                       [f"add t {key} 0 1", f"put t own{number} {number}"])), "end"]
+    for number in range(6):
+        lines += [f"read {rand.randint(1, 3)}", f"row t {rand.choice(keys)}", f"sum t 0 {' '.join(keys)}", "end"]
+    return "\n".join(lines).encode()
+
+
 # The front of a script, a `log` line and a log, mostly one with the tables of the script.
 def backup_input(rand):
     lines = [words for words in script_lines(rand) if words[0] != "turns"]
-    front = "\n".join(" ".join(words) for words in lines) + "\n" + rand.choice(("log\n", "log\n", " log \n", "log"))
+    front = "\n".join(" ".join(words) for words in lines) + "\n" + rand.choice(("log\n", "log\n", "log\n", " log \n", "log", ""))
     if rand.random() < 0.2:
         return front.encode() + log_input(rand)
+    if rand.random() < 0.05:
+        return "\n".join(" ".join(words) for words in lines).encode()
     try:
         script, _ = reference.read_script(front.encode(), front=True)
     except reference.Refused:
         return front.encode() + bytes(random_log(rand))
     log = bytearray(reference.spelled(meaning.names_and_types(script), reference.run_serial(script)))
-    if rand.random() < 0.2 and log:
+    what = rand.random()
+    if what < 0.1:
         log[rand.randrange(len(log))] ^= 1
+    elif what < 0.2:
+        del log[rand.randrange(len(log)):]
+    elif what < 0.3:
+        header, payloads = pieces(log)
+        change_payload(rand, rand.choice(payloads))
+        log = header + b"".join(len(payload).to_bytes(4, "big") + payload for payload in payloads)
+    elif what < 0.35:
+        log += b"\0"
     return front.encode() + bytes(log)
+
+
+# A front without faults, and a log with any.
+def backup_of_log(rand):
+    return b"table acct int\nlog\n" + log_input(rand)
+
+
+# A front of which one line is of any form and spoilt, and a log.
+def backup_of_line(rand):
+    return rand.choice([line_input] * 6 + [script_input] * 3 + [limit_input])(rand) + b"\nlog\n" + bytes(random_log(rand))
+
+
+# The scripts of examples/: (name, input).
+def examples():
+    for path in sorted(glob.glob(os.path.join(TOP, "examples", "*.c5s"))):
+        with open(path, "rb") as source:
+            yield os.path.basename(path), source.read()
 
 
 # Inputs at the limits of their counts: (command, what it is, input).
@@ -343,6 +390,7 @@ class Comparison:
     def __init__(self):
         self.passed = self.failed = 0
         self.answers = collections.Counter()
+        self.mixed = 0
         self.pairs = collections.Counter()
 
     def count(self, holds, why):
@@ -366,14 +414,16 @@ class Comparison:
         self.count(got == (status, printed), f"{' '.join(words)} on {name[:2000]}: {got[0]} {got[1][:200]!r}, not {status} {printed[:200]!r}")
 
     # A command whose answer isn't one text: it is right by what it means.
-    def compare_meaning(self, rand, command, data):
+    def compare_meaning(self, rand, command, data, name=None):
         words = [command]
         for option in {"primary": ["--threads"], "backup": ["--workers"], "clone": ["--threads", "--workers"]}[command]:
             words += [option, str(rand.choice((1, 2, 4, 16)))]
         ran = subprocess.run([PROGRAM, *words], input=data, stdout=subprocess.PIPE, stderr=subprocess.DEVNULL)
-        self.answers[command, answer_name(ran.returncode, ran.stdout)] += 1
         why = meaning.wrong(command, data, ran.returncode, ran.stdout)
-        self.count(why is None, f"{' '.join(words)} on {data[:2000]!r}: {why}")
+        if why is None:
+            self.answers[command, answer_name(ran.returncode, ran.stdout)] += 1
+            self.mixed += ran.returncode == 0 and command != "backup" and not meaning.is_script_order(command, ran.stdout)
+        self.count(why is None, f"{' '.join(words)} on {name or repr(data[:2000])}: {why}")
 
     # Words that are no command, an input that can't be read, and an output that can't be written.
     def compare_streams(self):
@@ -381,7 +431,7 @@ class Comparison:
         for words in ([], ["frob"], ["apply", "primary"], ["Apply"], [""], ["apply "]):
             self.answers["words", "bad words"] += 1
             self.run(words, repr(words), b"", 2, b"bad words\n")
-        for command, data in (("apply", log), ("primary", script)):
+        for command, data in (("apply", log), ("primary", script), ("backup", script + b"log\n" + log), ("clone", script)):
             folder = os.open(TOP, os.O_RDONLY)
             self.answers[command, "read fails"] += 1
             self.run([command], "a folder", None, 5, b"", stdin=folder)
@@ -390,12 +440,15 @@ class Comparison:
                 self.answers[command, "write fails"] += 1
                 self.run([command], "a full device", data, 6, b"", stdout=full)
 
-    def finish(self):
+    # Prints the counts, also of runs in another order than the script's (which threads may give, and need not), and of what is wanted of the seed and never came.
+    def finish(self, answers, pairs=()):
         names = collections.Counter({f"{command}: {what}": n for (command, what), n in self.answers.items()})
         print("answers:", ", ".join(f"{name} {n}" for name, n in sorted(names.items())))
-        for wanted in ANSWERS:
+        if self.mixed:
+            print(f"{self.mixed} runs on threads were in another order than the script's")
+        for wanted in answers:
             self.count(self.answers[wanted], f"no input of this seed gives the answer {' '.join(wanted)}")
-        for wanted in PAIRS:
+        for wanted in pairs:
             self.count(self.pairs[wanted], f"no input of this seed fails both tests {wanted[1]} of {wanted[0]}")
         print(f"{self.passed} passed, {self.failed} failed")
         return self.failed == 0
@@ -403,12 +456,14 @@ class Comparison:
 
 def answer_name(status, printed):
     text = printed.decode("latin-1").split()
-    return {0: "ok", 3: f"bad script {text[-1]}", 4: f"bad log {text[-1]}", 8: "too long", 9: " ".join(text)}[status]
+    last = text[-1] if text else ""
+    return {0: "ok", 3: f"bad script {last}", 4: f"bad log {last}", 8: "too long", 9: " ".join(text)}[status]
 
 
 def main():
     count = int(sys.argv[1]) if len(sys.argv) > 1 else 1500
-    rand = random.Random(int(sys.argv[2]) if len(sys.argv) > 2 else 1)
+    seed = sys.argv[2] if len(sys.argv) > 2 else "1"
+    rand = random.Random(int(seed))
     comparison = Comparison()
     for number in range(count):
         command, make = (("apply", log_input), ("primary", script_input))[number % 2]
@@ -417,16 +472,32 @@ def main():
     for make in [line_input] * 1000 + [limit_input] * 80 + [wide_script] * 40:
         data = make(rand)
         comparison.compare("primary", repr(data), data)
-    for make in [script_input] * 150 + [wide_script] * 30:
+    for make in [script_input] * 150 + [line_input] * 150 + [limit_input] * 20 + [wide_script] * 30:
         data = make(rand)
         for command in ("primary", "clone"):
             comparison.compare_meaning(rand, command, data)
-    for _ in range(200):
-        comparison.compare_meaning(rand, "backup", backup_input(rand))
+    rand = random.Random(f"{seed} contended")
+    for _ in range(60):
+        data = contended(rand)
+        for command in ("primary", "clone", "primary", "clone"):
+            comparison.compare_meaning(rand, command, data)
+    rand = random.Random(f"{seed} backup")
+    for make in [backup_input] * 400 + [backup_of_log] * 200 + [backup_of_line] * 300:
+        comparison.compare_meaning(rand, "backup", make(rand))
+    for name, data in examples():
+        log = reference.answer("primary", data)[1]
+        for _ in range(4):
+            comparison.compare_meaning(rand, "primary", data, name)
+            comparison.compare_meaning(rand, "clone", data, name)
+            comparison.compare_meaning(rand, "backup", data + b"log\n" + log, name)
     for command, name, data in large_inputs():
         comparison.compare(command, name, data)
+        if command == "primary":
+            comparison.compare_meaning(rand, "clone", data, name)
+        else:
+            comparison.compare_meaning(rand, "backup", b"table acct int\nlog\n" + data, f"a table, a line log, {name}")
     comparison.compare_streams()
-    sys.exit(0 if comparison.finish() else 1)
+    sys.exit(0 if comparison.finish(ANSWERS, PAIRS) else 1)
 
 
 if __name__ == "__main__":

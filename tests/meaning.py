@@ -1,5 +1,6 @@
 """What `primary --threads`, `backup` and `clone` print isn't one text: which order and which places come is free.
 These checks say whether a printed text is right by what it means: each function returns None, or why it is wrong."""
+import collections
 import re
 
 import reference
@@ -27,21 +28,27 @@ def in_reply_order(reads):
     return sorted(reads, key=lambda read: read[0])
 
 
-# The states after 0, 1, 2 .. of the transactions.
-def states_after(txns):
-    states = [{}]
-    for _, _, writes in txns:
-        state = dict(states[-1])
-        reference.apply_writes(state, writes)
-        states.append(state)
-    return states
+class States:
+    """The rows after so many of the transactions. To ask for ascending places is cheap."""
+
+    def __init__(self, txns):
+        self.txns = txns
+        self.place, self.rows = 0, {}
+
+    def after(self, place):
+        if place < self.place:
+            self.place, self.rows = 0, {}
+        for _, _, writes in self.txns[self.place:place]:
+            reference.apply_writes(self.rows, writes)
+        self.place = place
+        return self.rows
 
 
 # Whether the lines are the replies, and then the rows, of these transactions.
 def wrong_replies(tables, reads, txns, lines):
-    states, last, lines = states_after(txns), {}, list(lines)
+    states, last, lines = States(txns), {}, collections.deque(lines)
     for session, block in in_reply_order(reads):
-        head = HEAD.fullmatch(lines.pop(0)) if lines else None
+        head = HEAD.fullmatch(lines.popleft()) if lines else None
         if not head:
             return "a head is missing"
         of, place, lag = map(int, head.groups())
@@ -49,10 +56,10 @@ def wrong_replies(tables, reads, txns, lines):
             return f"the head is {head.group()!r}, after place {last.get(session, 0)} of session {session}"
         last[session] = place
         for line in block:
-            want, got = answer_line(tables, line, states[place]), lines.pop(0) if lines else b""
+            want, got = answer_line(tables, line, states.after(place)), lines.popleft() if lines else b""
             if got != want:
                 return f"at place {place} the answer is {got!r}, not {want!r}"
-    if b"".join(line + b"\n" for line in lines) != reference.rows_text(tables, states[-1]):
+    if b"".join(line + b"\n" for line in lines) != reference.rows_text(tables, states.after(len(txns))):
         return "the rows are others"
     return None
 
@@ -99,6 +106,15 @@ def wrong_clone(script, printed):
         return f"the first line is {lines[0][:40]!r}"
     order = [int(number) for number in order.group(1).split()]
     return wrong_order(script, order) or wrong_replies(names_and_types(script), script.reads, run_in_order(script, order), lines[1:])
+
+
+# Whether a text that isn't wrong has the transactions in the order of the script.
+def is_script_order(command, printed):
+    if command == "primary":
+        order = [number for number, _, _ in reference.read_log(printed)[1]]
+    else:
+        order = [int(number) for number in printed.split(b"\n")[0].split()[1:]]
+    return order == sorted(order)
 
 
 def wrong_backup(parts, printed):

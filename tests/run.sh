@@ -3,8 +3,10 @@
 #   - the cases of tests/*.cases, each file by the command that it is named after;
 #   - the tables of faults in docs/, from the documents themselves;
 #   - each command that a document shows with its output (a fenced block `console`), from the documents;
+#   - the page of `--help`: each example, each command, and the ranges of the options;
 #   - examples/: each script's log and rows;
-#   - inputs made from a seed, compared with a second implementation (tests/compare.py), if there is a python3.
+#   - if there is a python3: inputs made from a seed, compared with a second implementation (tests/compare*.py), and
+#     reads, writes and allocations that fail in turn (tests/hostile.py).
 set -u
 LC_ALL=C
 export LC_ALL
@@ -151,6 +153,42 @@ file=documents
 command=
 run_steps
 
+# The page of --help: its examples, its commands, and the ranges of its options.
+succeeds() {
+    if (cd "$top" && PATH="$top:$PATH" exec bash -c "$1") >"$got/output" 2>"$got/errors" </dev/null; then
+        pass
+    else
+        fail "c5 --help: status $? of: $1"
+    fi
+}
+
+refuses_words() {
+    "$program" "$@" >"$got/output" 2>"$got/errors" </dev/null
+    if [ $? -eq 2 ]; then pass; else fail "c5 --help: the words aren't refused: $*"; fi
+}
+
+"$program" --help >"$got/help"
+sed -n '/^examples:/,$ s/^  c5 /c5 /p' "$got/help" >"$got/examples"
+sed -n '/^commands:/,/^$/ s/^  \([a-z][a-z]*\) .*/\1/p' "$got/help" >"$got/commands"
+sed -n 's/^  --\([a-z]*\) N .*[ (]\([0-9]*\) to \([0-9]*\), default \([0-9]*\).*/\1 \2 \3 \4/p' "$got/help" >"$got/options"
+for found in examples commands options; do
+    [ -s "$got/$found" ] || fail "c5 --help: no $found were found"
+done
+while IFS= read -r example; do
+    succeeds "$example"
+done <"$got/examples"
+while read -r word; do
+    "$program" "$word" >"$got/output" 2>"$got/errors" </dev/null
+    if [ $? -ne 2 ]; then pass; else fail "c5 --help: $word isn't a command"; fi
+done <"$got/commands"
+while read -r option least most default; do
+    for number in "$least" "$most" "$default"; do
+        succeeds "c5 apply --$option $number <examples/first.log"
+    done
+    refuses_words apply "--$option" "$((least - 1))"
+    refuses_words apply "--$option" "$((most + 1))"
+done <"$got/options"
+
 for script in "$top"/examples/*.c5s; do
     file=examples/$(basename "$script")
     "$program" primary <"$script" >"$got/log" && "$program" apply <"$got/log" >"$got/output"
@@ -195,16 +233,26 @@ if ! (PATH=/usr/bin:/bin && command -v rt >/dev/null); then
     if run_script "" || ! grep -q '^c5: .*needs rt' "$got/errors"; then fail "c5: rt isn't said to be missing"; else pass; fi
 fi
 
-if command -v python3 >/dev/null 2>&1; then
-    python3 "$top/tests/compare.py" >"$got/compared"
+# A program that ends with a line `N passed, M failed`.
+run_checks() {
+    python3 "$top/tests/$1" $2 >"$got/compared"
     status=$?
     cat "$got/compared"
     counts=$(tail -n 1 "$got/compared" | sed -n 's/^\([0-9]*\) passed, \([0-9]*\) failed$/\1 \2/p')
-    passed=$((passed + ${counts%% *}))
-    failed=$((failed + ${counts##* }))
-    [ -n "$counts" ] && [ "$status" -eq 0 -o "${counts##* }" != 0 ] || fail "tests/compare.py: ended with status $status"
+    if [ -n "$counts" ]; then
+        passed=$((passed + ${counts%% *}))
+        failed=$((failed + ${counts##* }))
+    fi
+    [ -n "$counts" ] && [ "$status" -eq 0 -o "${counts##* }" != 0 ] || fail "tests/$1: ended with status $status"
+}
+
+if command -v python3 >/dev/null 2>&1; then
+    for checks in "$top"/tests/compare*.py; do
+        run_checks "$(basename "$checks")" ""
+    done
+    run_checks hostile.py quick
 else
-    echo "tests/compare.py: skipped, as there is no python3: the program was not compared with the second implementation"
+    echo "tests/compare.py, tests/hostile.py: skipped, as there is no python3: the program was not compared with the second implementation"
 fi
 
 echo "$passed passed, $failed failed"

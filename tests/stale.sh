@@ -1,7 +1,7 @@
 #!/bin/sh
 # Prints what documents cite and the repository lacks: links that lead nowhere; clauses, in the columns `clause` of
 # README.md and docs/PROOFS.md; and other names in backquotes, if they have an underscore or a capital letter after
-# their first one.
+# their first one. Also if the numbers of lines in docs/PROOFS.md and docs/HEADLINE.md are others than the files have.
 set -u
 cd "$(dirname "$0")/.." || exit 1
 for document in README.md docs/*.md crates/*/README.md; do
@@ -22,3 +22,7 @@ awk '
         git grep -q "ensures $clause " -- 'crates/*/src/*.rt' || echo "$document: clause $clause"
     done
 done
+sh bench/lines.sh | cat docs/PROOFS.md docs/HEADLINE.md - | awk '
+    { line[NR] = $0 }
+    END { for (i = 1; i <= NR / 2; i++) if (line[i] != line[i + NR / 2]) print "other numbers of lines (sh bench/lines.sh --write): " line[i] }
+'
