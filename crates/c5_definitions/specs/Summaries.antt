@@ -1,6 +1,6 @@
 -- What is counted of a log, its rows and its replies, and the summary that a count determines.
-use Rattle.std.specs.Prelude.{◌*◌, ◌==◌, ◌||◌, ◌++◌, ℕ, ℤ, pos, ◌+ℤ◌, Bool, List, [], ◌∷◌, length, codes}
-use Rattle.std.specs.Prelude.{Some, replicate}
+use Rattle.std.specs.Prelude.{◌*◌, ◌==◌, ◌||◌, ◌++◌, ℕ, ℤ, pos, ◌+ℤ◌, Bool, List, [], ◌∷◌}
+use Rattle.std.specs.Prelude.{length, codes, Some, replicate}
 use Rattle.std.specs.Fmt.{signed_decimal}
 use Rattle.std.specs.List.{count_by, sum_by, range_with_len}
 use Rattle.std.specs.Ordering.{int_eq}
