@@ -129,10 +129,11 @@ module _ (me : Seated) (k : Facts me.0.log me.0.workers) where
                     subst (IsWrite (names_in log.txns)) (sym e) is,
                     ap (row_of (names_in log.txns)) e ∙ sym same,
                   ))
-                  (λ ne. subst (IsHeadOf (names_in log.txns) q) (sym (set_head.else q is_q.write ne))
-                  (r.words.heads.rows q is_q));
+                  (λ ne. subst (IsHeadOf (names_in log.txns) q)
+                  (sym (set_head.else q is_q.write ne)) (r.words.heads.rows q is_q));
               others = λ q is_q not_first. set_head.else q is_q
-                  (λ same. not_first (ap (row_of (names_in log.txns)) same ∙ (row_is.first ∙ sym same)))
+                  (λ same. not_first
+                  (ap (row_of (names_in log.txns)) same ∙ (row_is.first ∙ sym same)))
                   ∙ r.words.heads.others q is_q not_first;
             };
             progress = λ i is_i. let p = r.words.progress i is_i in
@@ -144,7 +145,8 @@ module _ (me : Seated) (k : Facts me.0.log me.0.workers) where
                 };
             visible = let a = r.words.visible in omega arith;
             scheduled = λ q is_q. ⊎_elim (λ (e : q ≡ w). omega arith)
-                (λ (old : IsInstalled log workers x q). let a = r.words.scheduled q old in omega arith)
+                (λ (old : IsInstalled log workers x q).
+                let a = r.words.scheduled q old in omega arith)
                 (installs q is_q);
             records = let a = r.words.records.least in let b = r.words.records.most in record {
               least = omega arith;
@@ -194,7 +196,11 @@ module _ (me : Seated) (k : Facts me.0.log me.0.workers) where
             scheduled = let a = f.scheduled in omega arith;
             end = f.end;
             snapshot = λ own_s. let h = f.snapshot own_s in
-                record { holder = h.holder; place = h.place ∙ sym set_head.visible; below = h.below };
+                record {
+                  holder = h.holder;
+                  place = h.place ∙ sym set_head.visible;
+                  below = h.below;
+                };
             scheduler = λ own_s. let h = f.scheduler own_s in
                 record {
                   holder = h.holder;

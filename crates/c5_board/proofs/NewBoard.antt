@@ -191,7 +191,12 @@ module _ (log : Log) (workers : ℕ) (k : Facts log workers) where
                   omega (arith, is.0);
             };
         scheduler =
-            λ e. record { holder = refl; scheduled = sym scheduled; written = refl; indexed = refl };
+            λ e. record {
+              holder = refl;
+              scheduled = sym scheduled;
+              written = refl;
+              indexed = refl;
+            };
         looks = All-nil (IsLookOf (names_in log.txns) (numbers_from 1 workers) 0 0);
         found = All-nil (IsFoundInstalled log workers x);
       }

@@ -316,11 +316,12 @@ module _ (log : Log) (workers : ℕ) (k : Facts log workers) where
             passed_else taken.worker (length s.views) r.holders.worker i q.1 ∙
                 (f.roles i q.0).1,
           );
-          numbers = λ w has_w. let q = rest-installed taken.worker v.workers w v.installed has_w in (
-            q.0,
-            has-rest taken.worker (owner_of workers w) v.roles (f.installed w q.0).1
-                (λ ne same. q.1 ne (ap (λ (n : ℕ). owner_of n w) f.same_workers ∙ same)),
-          );
+          numbers = λ w has_w. let q =
+              rest-installed taken.worker v.workers w v.installed has_w in (
+                q.0,
+                has-rest taken.worker (owner_of workers w) v.roles (f.installed w q.0).1
+                    (λ ne same. q.1 ne (ap (λ (n : ℕ). owner_of n w) f.same_workers ∙ same)),
+              );
           all_numbers = λ w has_w own. let q =
               rest-has taken.worker (owner_of workers w) v.roles own in
               installed-rest taken.worker v.workers w v.installed has_w
@@ -551,7 +552,8 @@ module _ (log : Log) (workers : ℕ) (k : Facts log workers) where
         elim (dec_le v.place w.place) [
           | yes le ↦ (let e : max v.place w.place ≡ w.place = omega arith in
               let c = ap (end_of log.txns) e in omega arith)
-          | no gt ↦ (let g = lt_of_not-le gt in let e : max v.place w.place ≡ v.place = omega arith in
+          | no gt ↦ (let g = lt_of_not-le gt in
+              let e : max v.place w.place ≡ v.place = omega arith in
               let c = ap (end_of log.txns) e in omega arith)
         ]
 
@@ -605,7 +607,8 @@ module _ (log : Log) (workers : ℕ) (k : Facts log workers) where
           same_workers = f.same_workers;
           roles = λ i h. (
             ⊎_elim (λ (of_v : is_among i v.roles ≡ true). (f.roles i of_v).0)
-                (λ (of_w : is_among i w.roles ≡ true). (g.roles i of_w).0) (has_part i v.roles w.roles h),
+                (λ (of_w : is_among i w.roles ≡ true). (g.roles i of_w).0)
+                (has_part i v.roles w.roles h),
             worker_joined i h,
           );
           installed = λ q h. ⊎_elim
@@ -627,7 +630,8 @@ module _ (log : Log) (workers : ℕ) (k : Facts log workers) where
           count = greater-length v.floors w.floors same_count ∙ f.count;
           floors = λ i is. let a = f.floors i is in let b = g.floors i is in
               let e = greater-of v.floors w.floors i same_count in
-              let a_positive = a.positive in let a_reached = a.reached in let b_reached = b.reached in
+              let a_positive = a.positive in let a_reached = a.reached in
+              let b_reached = b.reached in
               record {
                 positive = omega arith;
                 owned = elim (dec_le (number_of v.floors i) (number_of w.floors i)) [
@@ -656,8 +660,8 @@ module _ (log : Log) (workers : ℕ) (k : Facts log workers) where
           scheduler = λ h. let p = both_schedules v.scheduler w.scheduler refl refl h in
               record { holder = p.0; scheduled = p.1; written = p.2; indexed = p.3 };
           looks = All-append
-              (IsLookOf (names_in log.txns) (greater_of_each v.floors w.floors) (max v.place w.place)
-              (max v.scheduled w.scheduled)) v.looks w.looks
+              (IsLookOf (names_in log.txns) (greater_of_each v.floors w.floors)
+              (max v.place w.place) (max v.scheduled w.scheduled)) v.looks w.looks
               (All-weaker (IsLookOf (names_in log.txns) v.floors v.place v.scheduled)
               (IsLookOf (names_in log.txns) (greater_of_each v.floors w.floors)
               (max v.place w.place) (max v.scheduled w.scheduled))
@@ -698,7 +702,8 @@ module _ (log : Log) (workers : ℕ) (k : Facts log workers) where
               λ h. (
                 h,
                 flagged w.scheduler id r.holders.scheduler j
-                    (λ of_w. absurd (not_other (sym (z.scheduler h).holder ∙ (g.scheduler of_w).holder)))
+                    (λ of_w. absurd
+                    (not_other (sym (z.scheduler h).holder ∙ (g.scheduler of_w).holder)))
                     (λ _. (z.scheduler h).holder),
                 refl,
                 refl,

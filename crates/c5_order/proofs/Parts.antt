@@ -411,8 +411,8 @@ commit-parts base last h ts o p sts m n b k writes parts is_open_b at outcome as
           (reads h) sound b open_b.0 open_b.1 unsaid writes j st other (state-in h j st holds))))
           parts.states i (subst (λ n. i < n) (set-length sts b.script (Committed b.stamp)) lt);
       marks = marks-commit h g m n b.stamp writes cs rs
-          (omega (arith, (counts-within base.last (begun h) b sound.counted open_b.0).0)) unsaid is_n
-          parts.marks;
+          (omega (arith, (counts-within base.last (begun h) b sound.counted open_b.0).0))
+          unsaid is_n parts.marks;
     } where
       g : List Entry
       g = h ++ entry b.caller b.stamp (Commits writes) ∷ []
@@ -443,14 +443,16 @@ commit-parts base last h ts o p sts m n b k writes parts is_open_b at outcome as
       unsaid : lookup (λ n. eqb n b.stamp) (commits h) ≡ None
       unsaid = uncommitted h b.stamp open_b.1
 
-      found : lookup (λ n. eqb n b.stamp) (commits (h ++ entry b.caller b.stamp (Commits writes) ∷ []))
-          ≡ Some writes
+      found : lookup (λ n. eqb n b.stamp)
+          (commits (h ++ entry b.caller b.stamp (Commits writes) ∷ [])) ≡ Some writes
       found = ap (λ c. lookup (λ n. eqb n b.stamp) c) cs ∙ lookup-push b.stamp (commits h)
-          (b.stamp, writes) unsaid ∙ ap (λ t. cond t (Some writes) None) (eq-eqb b.stamp b.stamp refl)
+          (b.stamp, writes) unsaid
+          ∙ ap (λ t. cond t (Some writes) None) (eq-eqb b.stamp b.stamp refl)
 
       along : (i : ℕ) (st : BodyState)
           → StateIn (begun h) (commits h ++ (b.stamp, writes) ∷ [])
-          (ended_stamps h ++ b.stamp ∷ []) i st → StateIn (begun g) (commits g) (ended_stamps g) i st
+          (ended_stamps h ++ b.stamp ∷ []) i st
+          → StateIn (begun g) (commits g) (ended_stamps g) i st
       along i st = state-along (begun h) (begun g) (commits h ++ (b.stamp, writes) ∷ []) (commits g)
           (ended_stamps h ++ b.stamp ∷ []) (ended_stamps g) i st (sym bs) (sym cs) (sym es)
 

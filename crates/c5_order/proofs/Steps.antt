@@ -218,7 +218,8 @@ sound-commit base bs cs es rs b writes sound there unended uncommitted outcome a
           (λ x in_xs. both x (All-contains P xs x p in_xs) (All-contains Q xs x q in_xs)) xs
           (All-contains_itself xs)
 
-      new : (s : ℕ) → b.stamp ≡ s → lookup (λ n. eqb n s) (cs ++ (b.stamp, writes) ∷ []) ≡ Some writes
+      new : (s : ℕ) → b.stamp ≡ s
+          → lookup (λ n. eqb n s) (cs ++ (b.stamp, writes) ∷ []) ≡ Some writes
       new s same = lookup-push s cs (b.stamp, writes)
           (subst (λ n. lookup (λ m. eqb m n) cs ≡ None) same uncommitted) ∙ ap
           (λ t. cond t (Some writes) None) (eq-eqb b.stamp s same)
@@ -230,8 +231,9 @@ sound-commit base bs cs es rs b writes sound there unended uncommitted outcome a
           (answers-kept base.start cs ((b.stamp, writes) ∷ []) rs [] s
           (read-version base bs cs es rs sound) refl)
 
-      is_new : (a : Begun) (w : List Write) → lookup (λ n. eqb n a.stamp) (cs ++ (b.stamp, writes) ∷ [])
-          ≡ Some w → lookup (λ n. eqb n a.stamp) cs ≡ None → (b.stamp ≡ a.stamp) × (writes ≡ w)
+      is_new : (a : Begun) (w : List Write)
+          → lookup (λ n. eqb n a.stamp) (cs ++ (b.stamp, writes) ∷ []) ≡ Some w
+          → lookup (λ n. eqb n a.stamp) cs ≡ None → (b.stamp ≡ a.stamp) × (writes ≡ w)
       is_new a w e none = by (eqb b.stamp a.stamp) refl
           (sym (lookup-push a.stamp cs (b.stamp, writes) none) ∙ e)
         where
@@ -242,8 +244,8 @@ sound-commit base bs cs es rs b writes sound there unended uncommitted outcome a
 
       which : (a : Begun) → Contains bs a → (w : List Write)
           → lookup (λ n. eqb n a.stamp) (cs ++ (b.stamp, writes) ∷ []) ≡ Some w
-          → (o : Option (List Write)) → lookup (λ n. eqb n a.stamp) cs ≡ o → OutcomeIn base cs rs a w
-          × IsAscending w
+          → (o : Option (List Write)) → lookup (λ n. eqb n a.stamp) cs ≡ o
+          → OutcomeIn base cs rs a w × IsAscending w
       which a at w e (Some v) is = sound.outcomes a at w
           (let more = lookup-more a.stamp cs ((b.stamp, writes) ∷ []) v is in cc)
       which a at w e None is =

@@ -238,4 +238,5 @@ module _ (old mid new : Pass) (b : Board) (n least place : ℕ) (h : HasLoaded o
         }
 
     pub least-found : 1 ≤ n → IsLeastOf least new.floors
-    least-found some = subst (IsLeastOf least) floors-kept (finds_least old mid n least h some count)
+    least-found some = subst (IsLeastOf least) floors-kept
+        (finds_least old mid n least h some count)

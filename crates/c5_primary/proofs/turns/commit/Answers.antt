@@ -139,8 +139,8 @@ returns-in-Ok-clause-holds c =
     let after = c.in-Ok.ensures.ok b stays.0 refl in (
       c.give.ensures.pass,
       rw (c.still_open-parts.ensures)
-          (decided-open s _ h _ b c.args.writes.now t (c.give.ensures.numbers ∙ same) c.in-Ok.decision
-          (c.give.ensures.seen ∙ ap (λ z. z.history) after) c.args.parts.now.begun
+          (decided-open s _ h _ b c.args.writes.now t (c.give.ensures.numbers ∙ same)
+          c.in-Ok.decision (c.give.ensures.seen ∙ ap (λ z. z.history) after) c.args.parts.now.begun
           c.requires.holds.1),
     )
 
@@ -175,8 +175,8 @@ returns-in-Ok-clause-commit c =
       c.in-Some-begun.is,
       c.in-Ok.ensures.decision,
       rw (c.still_open-parts.ensures)
-          (same-state _ _ _ _ _ s.numbers _ (after_decision b c.args.writes.now c.in-Ok.decision h) _
-          (s.looks ++ 0 ∷ []) (c.give.ensures.numbers ∙ same)
+          (same-state _ _ _ _ _ s.numbers _
+          (after_decision b c.args.writes.now c.in-Ok.decision h) _ (s.looks ++ 0 ∷ []) (c.give.ensures.numbers ∙ same)
           (c.give.ensures.seen ∙ ap (λ z. z.history) after)
           (c.give.ensures.looks ∙ c.in-Took.ensures.took ∙ ap (λ l. l ++ 0 ∷ []) (sym looked))),
     )
