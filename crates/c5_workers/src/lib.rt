@@ -19,3 +19,5 @@ pub use worker::Worker;
 
 #[cfg(test)]
 mod tests;
+#[cfg(test)]
+mod try_tests;

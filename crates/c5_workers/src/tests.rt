@@ -11,11 +11,12 @@ use c5_plan::{Plan, plan};
 use c5_rows::{Cell, Key, NoMemory, RowName};
 use c5_snapshot::advance;
 use std::alloc::Global;
+use std::process::Abort;
 use std::test::Fail;
 use std::thread::{join, yield_now};
 
 // The table `acct` of one Int column, and three transactions that put 1, 2 and 3 into its row `a`.
-const ONE_ROW: &[u8] = b"C5L1\x01\x04acct\x01\x01\
+pub const ONE_ROW: &[u8] = b"C5L1\x01\x04acct\x01\x01\
     \0\0\0\x0dW\0\x01a\0\0\0\0\0\0\0\0\x01\
     \0\0\0\x11C\0\0\0\0\0\0\0\0\0\0\0\x01\0\0\0\x01\
     \0\0\0\x0dW\0\x01a\0\0\0\0\0\0\0\0\x02\
@@ -32,15 +33,15 @@ const TWO_ROWS: &[u8] = b"C5L1\x01\x04acct\x01\x01\
     \0\0\0\x11C\0\0\0\x01\0\0\0\0\0\0\0\x02\0\0\0\x01\
     \0\0\0\x05E\0\0\0\x02";
 
-fn log(alloc: Global, bytes: &[u8]) -> Result<LogBuffer, Fail>
-    requires { length bytes.now ≤ 1000 }
+pub fn log(alloc: Global, bytes: &[u8]) -> Result<LogBuffer, Fail>
+    requires { length bytes.now ≤ 10000 }
 {
     let mut decoder = Decoder::new(alloc);
     decoder.feed(bytes).ok().ok_or("fed")?;
     Ok(decoder.finish().ok().ok_or("a log")?)
 }
 
-fn row_named(key: &[u8]) -> Result<RowName, Fail> {
+pub fn row_named(key: &[u8]) -> Result<RowName, Fail> {
     Ok(RowName {
         table: 0,
         key: Key::new(key)?,
@@ -48,7 +49,7 @@ fn row_named(key: &[u8]) -> Result<RowName, Fail> {
 }
 
 // A board of two workers with a log that is wholly scheduled.
-fn scheduled<'p>(alloc: Global, plan: &'p Plan<'p>) -> Result<(Board<'p>, BoardPass), NoMemory>
+pub fn scheduled<'p>(alloc: Global, plan: &'p Plan<'p>) -> Result<(Board<'p>, BoardPass), NoMemory>
     ensures board { IfOk result (λ made. made.1.board ≡ made.0) }
     ensures workers { IfOk result (λ made. made.0.workers ≡ 2) }
     ensures roles { IfOk result (λ made. made.1.roles ≡ 1 ∷ 2 ∷ []) }
@@ -109,7 +110,11 @@ fn turn(board: &Board<'_>, pass: &mut BoardPass, worker: &mut Worker) -> WorkTur
 }
 
 // All writes are installed by a pass that has installed none.
-fn finished(alloc: Global, board: &Board<'_>, mut pass: BoardPass) -> Result<BoardPass, NoMemory>
+pub fn finished(
+    alloc: Global,
+    board: &Board<'_>,
+    mut pass: BoardPass,
+) -> Result<BoardPass, NoMemory>
     requires pass { pass.board ≡ board.now }
     requires workers { board.now.workers ≡ 2 }
     requires roles { pass.roles ≡ 1 ∷ 2 ∷ [] }
@@ -126,7 +131,7 @@ fn finished(alloc: Global, board: &Board<'_>, mut pass: BoardPass) -> Result<Boa
 }
 
 // The cell of the one column of a row after so many transactions, if the row is there.
-fn cell_at(board: &Board<'_>, pass: &mut BoardPass, name: &RowName, place: u32) -> Option<Cell>
+pub fn cell_at(board: &Board<'_>, pass: &mut BoardPass, name: &RowName, place: u32) -> Option<Cell>
     requires pass { pass.old.board ≡ board.now }
     ensures pass { pass.new.board ≡ board.now }
 {
@@ -138,6 +143,25 @@ fn cell_at(board: &Board<'_>, pass: &mut BoardPass, name: &RowName, place: u32) 
         At::Put(row) => row.to_row().cells().first().copied(),
         _ => None,
     }
+}
+
+// The row of the first write, of which the pass has place 1: its cell at that place, and nothing of
+// the log before it.
+fn reads_first_row(rt: &impl Abort, board: &Board<'_>, pass: &mut BoardPass) -> Result<(), Fail>
+    requires board { pass.old.board ≡ board.now }
+    requires place { 1 ≤ pass.old.place }
+{
+    let name = row_named(b"a")?;
+    let row = find(board, pass, &name).ok_or("a row")?;
+    assert_eq!(rt; row, 1);
+    let At::Put(put) = value_at(board, pass, row, 1) else {
+        panic!(rt; "the first transaction put it")
+    };
+    assert!(rt; put.to_row().cells().first().copied() == Some(Cell::Int(1)));
+    let At::Before = value_at(board, pass, row, 0) else {
+        panic!(rt; "no write is before the first transaction")
+    };
+    Ok(())
 }
 
 #[test]
@@ -166,7 +190,7 @@ fn a_worker_tries_again_what_it_put_off(rt: HostRuntime) -> Result<(), Fail> {
     assert!(rt; turn(&board, &mut second, &mut two) == WorkTurn::Done);
     let advanced = advance(&board, &mut rest);
     assert!(rt; advanced.place == 2 && advanced.least == 3);
-    Ok(())
+    reads_first_row(&rt, &board, &mut rest)
 }
 
 // The pass of worker 1 with its worker, and what is left, with the scheduler.
