@@ -23,6 +23,8 @@ pub use session::Session;
 pub use state::{Opened, SessionFault, SessionState, SlotId};
 
 #[cfg(test)]
+mod slot_tests;
+#[cfg(test)]
 mod tests;
 #[cfg(test)]
 mod thread_tests;
