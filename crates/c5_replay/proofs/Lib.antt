@@ -4,3 +4,17 @@ pub mod Ended
 pub mod JoinLemmas
 pub mod FinishLemmas
 pub mod SplitLemmas
+pub mod TakenLemmas
+pub mod MachineLemmas
+pub mod LastPlace
+pub mod OwnLooks
+pub mod TurnTries
+pub mod TurnWorks
+pub mod TurnVisible
+pub mod StepLemmas
+pub mod TurnMissed
+pub mod TurnMachines
+pub mod TurnRounds
+pub mod ReplayedTurns
+pub mod TurnBegin
+pub mod OpenTurns

@@ -1,7 +1,7 @@
 -- Replies of sessions, one session after the other.
 use Rattle.std.proofs.Common.{◌≡◌, ◌∙◌, ◌+◌, ◌≤◌, ◌<◌, ◌==◌, ◌++◌, ℕ, zero, suc, Bool, true, false}
 use Rattle.std.proofs.Common.{cond, List, [], ◌∷◌, length, map, ap, sym, subst, refl, arith, rules}
-use Rattle.std.proofs.Common.{eq-eqb, Some, slice_get, drop}
+use Rattle.std.proofs.Common.{eq-eqb, Some, slice_get, drop, max}
 use Rattle.std.specs.List.{AllByRecursion, filter, flat_map, range_with_len, zip}
 use Rattle.std.proofs.lemmas.Bool.{eqb-true}
 use Rattle.std.proofs.lemmas.List.{append_assoc, append-nil, length-append, map-append}
@@ -26,7 +26,7 @@ use Rattle.c5_replay.specs.Answered.{places_of, replies_of_session, loads_of_rea
 use Rattle.c5_replay.specs.Answered.{HasAnswered}
 use Rattle.c5_replay.specs.Replays.{HasLoadedReads}
 use Rattle.c5_replay.specs.Joins.{IsJoined, HaveReplied, reads_up_to}
-use Rattle.c5_replay.proofs.Within.{within-front, within-back, all-append, zip-append}
+use Rattle.c5_replay.proofs.Within.{within-front, within-back, all-append, all-mono, zip-append}
 
 pub all-imply : {X : Type 0} (P Q : X → Type 0) → ((x : X) → P x → Q x) → (xs : List X)
     → AllByRecursion P xs → AllByRecursion Q xs
@@ -166,15 +166,11 @@ replied-none p start reads =
       loads = λ s w. absurd (let a = w.0 in let b = w.1 in omega arith);
     }
 
-pub replied-more : (a b : Pass) (start : State) (reads : List ReadParts) (n i : ℕ)
-    (replies more : List Reply) → HaveReplied a start reads n replies → n + 1 ≡ i
-    → b.board ≡ a.board
-    → HasAnswered b start (reads_of_session reads i) more
-    → HaveReplied (joined a b) start reads i (replies ++ more)
-replied-more a b start reads n i replies more h next same own =
-    let own_so : AreAnswered a.board.log start (reads_of_session reads i) more =
-    subst (λ (x : Board). AreAnswered x.log start (reads_of_session reads i) more) same
-    own.answered in
+pub replied-next : (p : Pass) (start : State) (reads : List ReadParts) (n i : ℕ)
+    (replies more : List Reply) → HaveReplied p start reads n replies → n + 1 ≡ i
+    → HasAnswered p start (reads_of_session reads i) more
+    → HaveReplied p start reads i (replies ++ more)
+replied-next p start reads n i replies more h next own =
     let low : AllByRecursion (λ (x : ReadParts). x.session ≤ n) (reads_up_to reads n) =
     all-imply (λ (x : ReadParts). x.session < 1 + n) (λ (x : ReadParts). x.session ≤ n)
     (λ x e. omega (arith, e)) (reads_up_to reads n) (sessions-from reads 1 n) in
@@ -185,19 +181,19 @@ replied-more a b start reads n i replies more h next same own =
     (λ x e. omega (arith, e)) (reads_of_session reads i) are in
     let old_low : AllByRecursion (λ (x : Reply). x.session ≤ n) replies =
     subst (AllByRecursion (λ (x : Reply). x.session ≤ n)) (sym h.answered.replied)
-    (replied-sessions (λ s. s ≤ n) start a.board.log.txns (reads_up_to reads n)
+    (replied-sessions (λ s. s ≤ n) start p.board.log.txns (reads_up_to reads n)
     (places_of replies) low) in
     let new_are : AllByRecursion (λ (x : Reply). x.session ≡ i) more =
-    subst (AllByRecursion (λ (x : Reply). x.session ≡ i)) (sym own_so.replied)
-    (replied-sessions (λ s. s ≡ i) start a.board.log.txns (reads_of_session reads i)
+    subst (AllByRecursion (λ (x : Reply). x.session ≡ i)) (sym own.answered.replied)
+    (replied-sessions (λ s. s ≡ i) start p.board.log.txns (reads_of_session reads i)
     (places_of more) are) in
-    let txns = a.board.log.txns in
+    let txns = p.board.log.txns in
     let test : ℕ → Reply → Bool = λ s x. x.session == s in
     record {
-      answered = subst (λ (l : List ReadParts). AreAnswered a.board.log start l (replies ++ more))
+      answered = subst (λ (l : List ReadParts). AreAnswered p.board.log start l (replies ++ more))
           (sym (reads-more reads n i next))
-          (answered-append a.board.log start (reads_up_to reads n)
-          (reads_of_session reads i) replies more n h.answered own_so low high);
+          (answered-append p.board.log start (reads_up_to reads n)
+          (reads_of_session reads i) replies more n h.answered own.answered low high);
       loads = λ s w. dite (ℕ_discrete s i)
           (λ e.
           let none : replies_of_session replies s ≡ [] =
@@ -210,17 +206,9 @@ replied-more a b start reads n i replies more h next same own =
           (λ x l. l ∙ sym e) more new_are) in
           let is : replies_of_session (replies ++ more) s ≡ more =
           filter-append (test s) replies more ∙ (λ t. none t ++ all t) in
-          let found : AreWithin
-          (loads_of_reads txns (reads_of_session reads i) (places_of more)) b.looks =
-          subst (λ (x : Board). AreWithin
-          (loads_of_reads x.log.txns (reads_of_session reads i) (places_of more)) b.looks) same
-          own.loads in
           subst (λ (z : ℕ × List Reply). AreWithin
-          (loads_of_reads txns (reads_of_session reads z.0) (places_of z.1))
-          (a.looks ++ b.looks)) (λ t. (sym e t, sym is t))
-          (within-back
-          (loads_of_reads txns (reads_of_session reads i) (places_of more)) a.looks b.looks
-          found))
+          (loads_of_reads txns (reads_of_session reads z.0) (places_of z.1)) p.looks)
+          (λ t. (sym e t, sym is t)) own.loads)
           (λ ne.
           let none : replies_of_session more s ≡ [] =
           filter-none s more
@@ -232,11 +220,38 @@ replied-more a b start reads n i replies more h next same own =
           (replies_of_session replies s) in
           let less : s ≤ n = (let u = w.1 in omega arith) in
           subst (λ (l : List Reply). AreWithin
-          (loads_of_reads txns (reads_of_session reads s) (places_of l)) (a.looks ++ b.looks))
-          (sym is)
-          (within-front
-          (loads_of_reads txns (reads_of_session reads s)
-          (places_of (replies_of_session replies s))) a.looks b.looks (h.loads s (w.0, less))));
+          (loads_of_reads txns (reads_of_session reads s) (places_of l)) p.looks)
+          (sym is) (h.loads s (w.0, less)));
+    }
+
+pub replied-more : (a b : Pass) (start : State) (reads : List ReadParts) (n i : ℕ)
+    (replies more : List Reply) → HaveReplied a start reads n replies → n + 1 ≡ i
+    → b.board ≡ a.board
+    → HasAnswered b start (reads_of_session reads i) more
+    → HaveReplied (joined a b) start reads i (replies ++ more)
+replied-more a b start reads n i replies more h next same own =
+    replied-next (joined a b) start reads n i replies more before next after
+  where
+    before : HaveReplied (joined a b) start reads n replies
+    before = record {
+      answered = h.answered;
+      loads = λ s w. within-front
+          (loads_of_reads a.board.log.txns (reads_of_session reads s)
+          (places_of (replies_of_session replies s))) a.looks b.looks (h.loads s w);
+    }
+
+    after : HasAnswered (joined a b) start (reads_of_session reads i) more
+    after = record {
+      answered = subst
+          (λ (x : Board). AreAnswered x.log start (reads_of_session reads i) more) same
+          own.answered;
+      reached = all-mono b.place (max a.place b.place) (omega arith) (places_of more) own.reached;
+      loads = within-back
+          (loads_of_reads a.board.log.txns (reads_of_session reads i) (places_of more)) a.looks
+          b.looks
+          (subst (λ (x : Board). AreWithin
+          (loads_of_reads x.log.txns (reads_of_session reads i) (places_of more)) b.looks) same
+          own.loads);
     }
 
 -- the loads are still among the looks of a pass with more looks

@@ -1,9 +1,10 @@
 //! A session's part.
 
-ghost use Rattle.std.specs.Prelude.{◌≡◌, ◌++◌, ◌∷◌, [], List, IfOk, OnOk};
+ghost use Rattle.std.specs.Prelude.{◌≡◌, ◌++◌, ◌∷◌, [], List, IfOk, OnOk, true};
 ghost use Rattle.c5_definitions.specs.Replies.{reads_of_session};
 ghost use Rattle.c5_definitions.specs.ScriptParts.{ReadParts};
-ghost use Rattle.c5_replay.specs.Answered.{HasAnswered, OnlyReads};
+ghost use Rattle.c5_reads.specs.Looks.{OnlyLooks};
+ghost use Rattle.c5_replay.specs.Answered.{HasAnswered, OnlyReads, places_of};
 ghost use Rattle.c5_replay.specs.Parts.{IsPassWith};
 
 use crate::shared::Shared;
@@ -15,8 +16,8 @@ use c5_rows::{NoMemory, Reply};
 use c5_script::ReadBlock;
 use std::alloc::Global;
 
-// Answers the next read of a session.
-fn answer_next(
+/// Answers the next read of a session. A pass with the snapshot role is read at its own place.
+pub fn answer_next(
     alloc: Global,
     board: &Board<'_>,
     session: &mut ReadSession<'_>,
@@ -31,6 +32,8 @@ fn answer_next(
     ensures answered { OnOk result ((done : List ReadParts)
         → HasAnswered pass.old session.old.start done replies.old.items
         → HasAnswered pass.new session.old.start (done ++ read.now ∷ []) replies.new.items) }
+    ensures own { OnOk result (pass.old.snapshot ≡ true → OnlyLooks pass.old pass.new
+        × (places_of replies.new.items ≡ places_of replies.old.items ++ pass.old.place ∷ [])) }
 {
     let view = session.begin(board, pass);
     let reply = session.answer(alloc, board, pass, &view, read)?;

@@ -95,8 +95,8 @@ fn join_snapshot(
     }
 }
 
-// Adds replies at the end.
-fn append(replies: &mut Replies, more: Vec<Reply>) -> Result<(), NoMemory>
+/// Adds replies at the end.
+pub fn append(replies: &mut Replies, more: Vec<Reply>) -> Result<(), NoMemory>
     ensures { OnOk result (replies.new ≡ replies.old ++ more.items) }
 {
     for reply in more {

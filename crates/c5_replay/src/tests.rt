@@ -1,7 +1,7 @@
 ghost use Rattle.std.specs.Prelude.{◌≡◌, ◌≤◌, length, IfOk};
 
 use super::*;
-use c5_definitions::ReadLine;
+use c5_definitions::{ReadLine, TurnWord};
 use c5_frames::{Decoder, LogBuffer};
 use c5_io::{Gate, OpenGate, Role};
 use c5_plan::plan;
@@ -19,6 +19,23 @@ const TWO_ROWS: &[u8] = b"C5L1\x01\x04acct\x01\x01\
     \0\0\0\x0dW\0\x01b\0\0\0\0\0\0\0\0\x02\
     \0\0\0\x11C\0\0\0\x01\0\0\0\0\0\0\0\x02\0\0\0\x01\
     \0\0\0\x05E\0\0\0\x02";
+
+// Three transactions that put 1, 2 and 3 into `a`.
+const ONE_ROW: &[u8] = b"C5L1\x01\x04acct\x01\x01\
+    \0\0\0\x0dW\0\x01a\0\0\0\0\0\0\0\0\x01\
+    \0\0\0\x11C\0\0\0\0\0\0\0\0\0\0\0\x01\0\0\0\x01\
+    \0\0\0\x0dW\0\x01a\0\0\0\0\0\0\0\0\x02\
+    \0\0\0\x11C\0\0\0\x01\0\0\0\0\0\0\0\x02\0\0\0\x01\
+    \0\0\0\x0dW\0\x01a\0\0\0\0\0\0\0\0\x03\
+    \0\0\0\x11C\0\0\0\x02\0\0\0\0\0\0\0\x03\0\0\0\x01\
+    \0\0\0\x05E\0\0\0\x03";
+
+// A transaction that puts 1 into `a` and 2 into `b`.
+const TWO_WRITES: &[u8] = b"C5L1\x01\x04acct\x01\x01\
+    \0\0\0\x0dW\0\x01a\0\0\0\0\0\0\0\0\x01\
+    \0\0\0\x0dW\0\x01b\0\0\0\0\0\0\0\0\x02\
+    \0\0\0\x11C\0\0\0\0\0\0\0\0\0\0\0\x01\0\0\0\x02\
+    \0\0\0\x05E\0\0\0\x01";
 
 // A hold ends after so many looks at whether it may.
 const MAX_HOLD: u32 = 10_000_000;
@@ -200,5 +217,67 @@ fn replies_are_by_ascending_session(rt: HostRuntime) -> Result<(), Fail> {
     assert_eq!(rt; rows[0].name.key.bytes(), b"a".as_slice());
     assert_eq!(rt; rows[0].row.cells(), [Cell::Int(1)].as_slice());
     assert_eq!(rt; rows[1].row.cells(), [Cell::Int(2)].as_slice());
+    Ok(())
+}
+
+#[test]
+fn a_write_waits_for_its_predecessor(rt: HostRuntime) -> Result<(), Fail> {
+    let alloc = rt.alloc();
+    let log = log(alloc, ONE_ROW)?;
+    let plan = plan(&log).ok().ok_or("a plan")?;
+    let start = Rows::new(alloc);
+    let reads = [
+        read_of(alloc, 1, b"a")?,
+        read_of(alloc, 1, b"a")?,
+        read_of(alloc, 1, b"a")?,
+    ];
+    let turns = [
+        TurnWord::Worker(2),
+        TurnWord::Visible,
+        TurnWord::Session(1),
+        TurnWord::Worker(1),
+        TurnWord::Worker(2),
+        TurnWord::Visible,
+        TurnWord::Session(1),
+        TurnWord::Worker(1),
+        TurnWord::Visible,
+        TurnWord::Session(1),
+    ];
+    let report = replay_turns(alloc, &plan, 2, &start, &reads, &turns)
+        .ok()
+        .ok_or("a replay")?;
+    let replies = report.replies.as_slice();
+    assert!(rt; replies.len() == 3);
+    assert_eq!(rt; replies[0].place, 0);
+    assert_eq!(rt; replies[1].place, 2);
+    assert_eq!(rt; replies[2].place, 3);
+    assert_eq!(rt; report.put_off, 1);
+    assert_eq!(rt; report.rows.len(), 1);
+    Ok(())
+}
+
+#[test]
+fn rounds_and_left_reads_follow_the_words(rt: HostRuntime) -> Result<(), Fail> {
+    let alloc = rt.alloc();
+    let log = log(alloc, TWO_WRITES)?;
+    let plan = plan(&log).ok().ok_or("a plan")?;
+    let start = Rows::new(alloc);
+    let reads = [read_of(alloc, 1, b"a")?, read_of(alloc, 1, b"b")?];
+    let turns = [
+        TurnWord::Worker(2),
+        TurnWord::Worker(3),
+        TurnWord::Visible,
+        TurnWord::Session(0),
+        TurnWord::Session(1),
+    ];
+    let report = replay_turns(alloc, &plan, 2, &start, &reads, &turns)
+        .ok()
+        .ok_or("a replay")?;
+    let replies = report.replies.as_slice();
+    assert!(rt; replies.len() == 2);
+    assert_eq!(rt; replies[0].place, 0);
+    assert_eq!(rt; replies[1].place, 1);
+    assert_eq!(rt; report.put_off, 0);
+    assert_eq!(rt; report.rows.len(), 2);
     Ok(())
 }
