@@ -138,7 +138,8 @@ names-run [] = refl
 names-run (txn ∷ txns) = map-joined txn.writes (writes_of txns) ∙ ap
     (λ (ns : List RowName). map (λ (w : Write). w.name) txn.writes ++ ns) (names-run txns)
 
-writes-run : (txns : List Txn) → length (writes_of txns) ≡ total_writes txns
+-- the writes of a log are those of its transactions
+pub writes-run : (txns : List Txn) → length (writes_of txns) ≡ total_writes txns
 writes-run [] = refl
 writes-run (txn ∷ txns) =
     let sum : total_writes (txn ∷ txns) ≡ length txn.writes + total_writes txns =

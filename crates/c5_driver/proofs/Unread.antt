@@ -1,7 +1,7 @@
 -- A run that ends out of memory before it reads.
 use Rattle.std.proofs.Common.{ℕ, refl, Option, Some, None}
 use Rattle.c5_words.specs.declared.request.Request.{Request}
-use Rattle.c5_words.specs.declared.request.Request.TheVariants.{Run, Help, Version}
+use Rattle.c5_words.specs.declared.request.Request.TheVariants.{Run, Generate, Help, Version}
 use Rattle.c5_driver.specs.declared.refusal.Refusal.TheVariants as refusals
 use Rattle.c5_driver.specs.declared.status.Status.TheVariants as statuses
 use Rattle.c5_driver.specs.Commands.{input_limit}
@@ -22,5 +22,6 @@ no_memory (Some (Run command options)) source sink takes line =
       refused = takes (input_limit command);
       line = line;
     }
+no_memory (Some (Generate options)) source sink takes line = tt
 no_memory (Some Help) source sink takes line = tt
 no_memory (Some Version) source sink takes line = tt

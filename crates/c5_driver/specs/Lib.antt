@@ -4,6 +4,8 @@ pub use Rattle.c5_definitions.specs.Lawful
 pub use Rattle.c5_definitions.specs.Texts
 pub use Rattle.c5_definitions.specs.Outputs
 pub use Rattle.c5_definitions.specs.Replies
+pub use Rattle.c5_definitions.specs.TurnTexts
+pub use Rattle.c5_definitions.specs.Summaries
 pub use Rattle.c5_plan.specs.Written
 pub use Rattle.c5_primary.specs.Serial
 pub mod Numbers
@@ -18,6 +20,9 @@ pub mod Feeding
 pub mod Replaying
 pub mod Backups
 pub mod Cloning
+pub mod Turning
+pub mod Figures
+pub mod Generating
 pub mod Meanings
 pub mod Printed
 pub mod Runs

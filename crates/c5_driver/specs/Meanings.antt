@@ -17,8 +17,10 @@ use Rattle.c5_definitions.specs.Texts.{rows_text}
 use Rattle.c5_definitions.specs.ScriptParts.{ScriptParts}
 use Rattle.c5_definitions.specs.Script.{script_of, front_of}
 use Rattle.c5_definitions.specs.SerialRun.{SerialRun}
+use Rattle.c5_definitions.specs.TurnTexts.{turns_text}
 use Rattle.c5_words.specs.declared.command.Command.{Command}
 use Rattle.c5_words.specs.declared.command.Command.TheVariants.{Apply, Primary, Backup, Clone}
+use Rattle.c5_words.specs.declared.command.Command.TheVariants.{Turns}
 use Rattle.c5_words.specs.declared.options.Options.{Options}
 use Rattle.c5_driver.specs.declared.refusal.Refusal.{Refusal}
 use Rattle.c5_driver.specs.declared.refusal.Refusal.TheVariants.{BadLog, BadScript, Limit}
@@ -81,6 +83,12 @@ input_refusal Apply input = log_refusal input
 input_refusal Primary input = script_refusal input
 input_refusal Backup input = backup_refusal input
 input_refusal Clone input = script_refusal input
+input_refusal Turns input = script_refusal input
+
+-- the bytes are the script, which exceeds no limit
+pub record IsScriptWithin (input : List ℕ) (script : ScriptParts) : Type 0 where
+  pub read : script_of input ≡ Ok script
+  pub within : excess_of script ≡ None
 
 -- the input is within the command's limit, and is not refused for what it is
 pub record IsAccepted (command : Command) (input : List ℕ) : Type 0 where
@@ -126,12 +134,21 @@ pub record IsClone (input text : List ℕ) : Type 0 where
   pub read : script_of input ≡ Ok script
   pub printed : IsCloneOf script text
 
+-- the input is a script, and the text is that of its schedule with so many workers: the order 0, 1,
+-- 2 and so on, the replies at the places where the schedule takes the reads, all rows after the
+-- run, and how many writes the schedule puts off
+pub record IsTurns (workers : ℕ) (input text : List ℕ) : Type 0 where
+  pub script : ScriptParts
+  pub read : script_of input ≡ Ok script
+  pub printed : text ≡ turns_text script workers
+
 -- the text that a command makes of an input
 abbrev pub IsTextOf : Command → Options → List ℕ → List ℕ → Type 0
 IsTextOf Apply options input text = IsRowsAfter input text
 IsTextOf Primary options input text = IsLogOfRun input text
 IsTextOf Backup options input text = IsBackup input text
 IsTextOf Clone options input text = IsClone input text
+IsTextOf Turns options input text = IsTurns options.workers input text
 
 -- a command makes its text of the whole input, or refuses the input
 abbrev pub MakesText : Command → Options → SourceUse → Result (Vec ℕ Global) Refusal → Type 0

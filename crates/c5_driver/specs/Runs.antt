@@ -8,6 +8,7 @@ use Rattle.c5_definitions.specs.Outputs.{clone_text}
 use Rattle.c5_definitions.specs.Replies.{AreLawfulPlaces, in_reply_order}
 use Rattle.c5_definitions.specs.Script.{script_of}
 use Rattle.c5_definitions.specs.ScriptParts.{ScriptParts}
+use Rattle.c5_definitions.specs.Summaries.{generated_summary}
 use Rattle.c5_words.specs.declared.command.Command.{Command}
 use Rattle.c5_words.specs.declared.command.Command.TheVariants.{Clone}
 use Rattle.c5_driver.specs.declared.refusal.Refusal.{Refusal}
@@ -15,12 +16,13 @@ use Rattle.c5_driver.specs.declared.refusal.Refusal.TheVariants as refusals
 use Rattle.c5_driver.specs.declared.status.Status.{Status}
 use Rattle.c5_driver.specs.declared.status.Status.TheVariants as statuses
 use Rattle.c5_driver.specs.Commands.{input_limit}
+use Rattle.c5_driver.specs.Generating.{EndsWith, gen_ending}
 use Rattle.c5_driver.specs.Inputs.{ReadsAll, Refuses}
 use Rattle.c5_driver.specs.Meanings.{input_refusal, IsAccepted, IsTextOf}
 use Rattle.c5_driver.specs.Printed.{PrintsAll, PrintsPart, PrintsLine, PrintsText}
 use Rattle.c5_words.specs.declared.options.Options.{Options}
 use Rattle.c5_words.specs.declared.request.Request.{Request}
-use Rattle.c5_words.specs.declared.request.Request.TheVariants.{Run, Help, Version}
+use Rattle.c5_words.specs.declared.request.Request.TheVariants.{Run, Generate, Help, Version}
 use Rattle.c5_words.specs.Texts.{help_text, version_text}
 use Rattle.c5_driver.specs.Refusals.{status_of, line_of}
 use Rattle.c5_driver.specs.Uses.{SourceUse, SinkUse}
@@ -43,7 +45,7 @@ pub record PrintsRefusal (command : Command) (status : Status) (source : SourceU
   pub refused : Refuses (input_limit command) (input_refusal command) source refusal
   pub line : PrintsLine sink (line_of refusal)
 
--- how a run of a command ends
+-- how a run of a command over an input ends
 abbrev pub Ends : Command → Options → Status → SourceUse → SinkUse → Type 0
 Ends command options statuses.Ok source sink = Prints command options source (PrintsAll sink)
 Ends command options statuses.WriteFault source sink =
@@ -62,15 +64,30 @@ abbrev pub PrintsPage : List ℕ → Status → SinkUse → Type 0
 PrintsPage page statuses.NoMemory sink = Unit {0}
 PrintsPage page status sink = PrintsText status sink page
 
+-- the text is the summary of a count; it says, as each does, that all money is there at the end and
+-- in all that the reads saw
+pub record IsSummaryText (count : ℕ) (text : List ℕ) : Type 0 where
+  pub counted : text ≡ generated_summary count
+  pub ending : EndsWith gen_ending text
+
+-- how a run ends that prints the summary of a count: it was printed, or a write failed, or out of
+-- memory
+abbrev pub PrintsSummary : ℕ → Status → SinkUse → Type 0
+PrintsSummary count statuses.NoMemory sink = Unit {0}
+PrintsSummary count status sink =
+    (text : List ℕ) × IsSummaryText count text × PrintsText status sink text
+
 -- how a run of the program ends whose words mean this
 abbrev pub ProgramEnds : Option Request → Status → SourceUse → SinkUse → Type 0
 ProgramEnds None status source sink = RefusesWords status sink
 ProgramEnds (Some (Run command options)) status source sink =
     Ends command options status source sink
+ProgramEnds (Some (Generate options)) status source sink =
+    PrintsSummary options.count status sink
 ProgramEnds (Some Help) status source sink = PrintsPage help_text status sink
 ProgramEnds (Some Version) status source sink = PrintsPage version_text status sink
 
--- nothing is read: the words are refused, or ask for a page
+-- nothing is read: the words are refused, or ask for a summary or a page
 abbrev pub ReadsNothing : Option Request → Type 0
 ReadsNothing (Some (Run command options)) = ⊥
 ReadsNothing request = Unit {0}
@@ -96,10 +113,11 @@ Completes command status source sink =
     → ¬ Rose sink.faults_old sink.faults_new
     → IsSuccess status)
 
--- if no read and no write failed, a run is done that has an accepted input, or prints a page
+-- if no read and no write failed, a run is done that has an accepted input, or none
 abbrev pub ProgramCompletes : Request → Status → SourceUse → SinkUse → Type 0
 ProgramCompletes (Run command options) status source sink = Completes command status source sink
-ProgramCompletes page status source sink = ¬ Rose sink.faults_old sink.faults_new → IsSuccess status
+ProgramCompletes request status source sink =
+    ¬ Rose sink.faults_old sink.faults_new → IsSuccess status
 
 -- the bytes were a script, of which nothing is left; the sink has, after what it held, an order
 -- that names each body once, the replies to the reads at some lawful places of the bodies' serial

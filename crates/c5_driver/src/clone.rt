@@ -8,15 +8,12 @@ ghost use Rattle.c5_words.specs.Meaning.{AreOptions};
 ghost use Rattle.c5_driver.specs.Uses.{source_use};
 
 use crate::command::input_limit;
-use crate::limits::plan_within;
 use crate::logs::{decoded_run, run_of};
 use crate::orders::order_of;
-use crate::reading::read_bytes;
 use crate::refusal::Refusal;
-use crate::replaying::push_replay;
-use crate::scripts::script_in;
+use crate::replaying::{push_replayed, replay_within};
+use crate::scripts::script_from;
 use c5_io::Source;
-use c5_replay::ReplayFault;
 use c5_rows::NoMemory;
 use c5_script::Script;
 use c5_words::{Command, Options};
@@ -38,15 +35,11 @@ fn text_of_clone<R: Threads + Sync>(
     let mut text = order_of(alloc, &txns)?;
     let log = decoded_run(alloc, script, &txns)?;
     drop(txns);
-    let plan = match plan_within(&log) {
-        Ok(plan) => plan,
-        Err(_) => unreachable!(),
-    };
-    match push_replay(rt, alloc, &mut text, script, &plan, options) {
-        Ok(()) => Ok(text),
-        Err(ReplayFault::NoMemory) => Err(NoMemory),
-        Err(ReplayFault::Rows) => unreachable!(),
-    }
+    let total = log.transactions();
+    let replayed = replay_within(rt, alloc, script, &log, options)?;
+    drop(log);
+    push_replayed(alloc, &mut text, script, replayed, total)?;
+    Ok(text)
 }
 
 /// The order of a run of the script that the source gives, the replies to its reads and the rows,
@@ -61,9 +54,7 @@ pub fn clone<R: Threads + Sync, S: Source>(
     ensures { MakesText Command.Clone options
         (source_use S.left S.faults source.old source.new) result }
 {
-    let bytes = read_bytes(alloc, source, input_limit(Command::Clone))?;
-    let script = script_in(alloc, &bytes)?;
-    drop(bytes);
+    let script = script_from(alloc, source, input_limit(Command::Clone))?;
     match text_of_clone(rt, alloc, &script, options) {
         Ok(text) => Ok(text),
         Err(NoMemory) => Err(Refusal::NoMemory),

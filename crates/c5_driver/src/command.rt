@@ -15,5 +15,6 @@ pub fn input_limit(command: Command) -> usize
         Command::Primary => MAX_SCRIPT_BYTES,
         Command::Backup => MAX_LOG_BYTES,
         Command::Clone => MAX_SCRIPT_BYTES,
+        Command::Turns => MAX_SCRIPT_BYTES,
     }
 }

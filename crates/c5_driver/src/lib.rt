@@ -6,6 +6,8 @@ mod backup;
 mod clone;
 mod command;
 mod decoding;
+mod figures;
+mod generating;
 mod limits;
 mod logs;
 mod orders;
@@ -17,6 +19,7 @@ mod replaying;
 mod run;
 mod scripts;
 mod status;
+mod turns;
 
 pub use refusal::Refusal;
 pub use run::c5;

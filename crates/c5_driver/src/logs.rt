@@ -8,13 +8,14 @@ ghost use Rattle.c5_definitions.specs.Lawful.{Spells};
 ghost use Rattle.c5_definitions.specs.Limits.{excess_of};
 ghost use Rattle.c5_definitions.specs.Outputs.{no_rows};
 ghost use Rattle.c5_definitions.specs.SerialRun.{SerialRun};
+ghost use Rattle.c5_definitions.specs.TurnTexts.{txns_in_number_order};
 ghost use Rattle.c5_primary.specs.Serial.{IsLogWithin};
 ghost use Rattle.c5_driver.specs.LogLimits.{excess_of_log};
 
 use crate::decoding::fed;
 use c5_frames::{LogBuffer, encode, one_log};
 use c5_io::OpenGate;
-use c5_primary::{run, serial_run_law};
+use c5_primary::{run, run_serial, serial_run_law};
 use c5_rows::{NoMemory, Txn};
 use c5_script::Script;
 use std::alloc::Global;
@@ -54,6 +55,19 @@ pub fn run_of<R: Threads + Sync>(
     ensures limits { IfOk result (λ txns. excess_of_log txns.items ≡ None) }
 {
     let txns = run(rt, alloc, script, threads, &OpenGate)?;
+    know_run(script, &txns);
+    Ok(txns)
+}
+
+/// The transactions of a script's bodies, run in the order of their numbers, from no rows.
+pub fn serial_run_of(alloc: Global, script: &Script) -> Result<Vec<Txn>, NoMemory>
+    requires within { excess_of script.now ≡ None }
+    ensures exact { IfOk result (λ txns. txns.items ≡ txns_in_number_order script.now) }
+    ensures run { IfOk result (λ txns. SerialRun script.now.bodies no_rows txns.items) }
+    ensures log { IfOk result (λ txns. IsLogWithin script.now txns.items) }
+    ensures limits { IfOk result (λ txns. excess_of_log txns.items ≡ None) }
+{
+    let txns = run_serial(alloc, script)?;
     know_run(script, &txns);
     Ok(txns)
 }

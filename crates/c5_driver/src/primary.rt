@@ -12,9 +12,8 @@ ghost use Rattle.c5_driver.specs.Uses.{source_use};
 
 use crate::command::input_limit;
 use crate::logs::{bytes_of, run_of};
-use crate::reading::read_bytes;
 use crate::refusal::Refusal;
-use crate::scripts::script_in;
+use crate::scripts::script_from;
 use c5_io::Source;
 use c5_rows::NoMemory;
 use c5_script::Script;
@@ -51,9 +50,7 @@ pub fn primary<R: Threads + Sync, S: Source>(
     ensures { MakesText Command.Primary options
         (source_use S.left S.faults source.old source.new) result }
 {
-    let bytes = read_bytes(alloc, source, input_limit(Command::Primary))?;
-    let script = script_in(alloc, &bytes)?;
-    drop(bytes);
+    let script = script_from(alloc, source, input_limit(Command::Primary))?;
     match log_of_run(rt, alloc, &script, options) {
         Ok(text) => Ok(text),
         Err(NoMemory) => Err(Refusal::NoMemory),

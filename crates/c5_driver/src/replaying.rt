@@ -1,21 +1,29 @@
 //! The replies and the rows of a replay.
 
-ghost use Rattle.std.specs.Prelude.{◌≡◌, ◌≤◌, ◌<◌, ◌++◌, ℕ, List, Err, length, IfOk, OnOk};
+ghost use Rattle.std.specs.Prelude.{◌≡◌, ◌≤◌, ◌<◌, ◌++◌, ℕ, List, Err, None, length, option_map};
+ghost use Rattle.std.specs.Prelude.{IfErr, IfOk, OnOk};
 ghost use Rattle.std.specs.List.{All, flat_map};
 ghost use Rattle.c5_rows.specs.Sizes.{max_rows};
 ghost use Rattle.c5_rows.specs.State.{after_txns};
 ghost use Rattle.c5_rows.specs.declared.answer.Reply.{Reply as ReplyValue};
-ghost use Rattle.c5_definitions.specs.Outputs.{backup_text, no_rows, reply_text};
+ghost use Rattle.c5_definitions.specs.Outputs.{no_rows, reply_text};
 ghost use Rattle.c5_definitions.specs.Texts.{rows_text};
 ghost use Rattle.c5_definitions.specs.WriteNumbers.{names_in};
 ghost use Rattle.c5_definitions.specs.WriteNumbers.{row_count};
 ghost use Rattle.c5_words.specs.Meaning.{AreOptions};
-ghost use Rattle.c5_driver.specs.Replaying.{IsReplayOver, PrintsReplay};
+ghost use Rattle.c5_driver.specs.Inputs.{IsRefusedBy};
+ghost use Rattle.c5_driver.specs.LogLimits.{excess_of_log};
+ghost use Rattle.c5_driver.specs.Replaying.{IsReplayOver};
+ghost use Rattle.c5_driver.specs.declared.refusal.Refusal.TheVariants.{Limit};
 
+use crate::limits::plan_within;
+use crate::refusal::Refusal;
+use c5_definitions::Excess;
+use c5_frames::LogBuffer;
 use c5_io::OpenGate;
 use c5_plan::Plan;
 use c5_replay::{ReplayFault, Replayed, replay};
-use c5_rows::{NoMemory, Reply, Rows, Schema};
+use c5_rows::{NoMemory, Replies, Reply, Rows, Schema};
 use c5_script::Script;
 use c5_text::{reply_text, rows_text};
 use c5_words::Options;
@@ -57,22 +65,24 @@ fn push_replies(
     Ok(())
 }
 
-// Appends the rows.
-fn push_rows(
-    alloc: Global,
-    text: &mut Vec<u8>,
-    schema: &Schema,
-    rows: &Rows,
-) -> Result<(), NoMemory>
-    ensures { OnOk result (text.new.items ≡ text.old.items ++ rows_text schema.now rows.now) }
+// Appends the rows. They are dropped once they are listed, so that the list and the rows aren't in
+// memory while the text is made.
+fn push_rows(alloc: Global, text: &mut Vec<u8>, schema: &Schema, rows: Rows) -> Result<(), NoMemory>
+    ensures { OnOk result (text.new.items ≡ text.old.items ++ rows_text schema.now rows) }
 {
     let entries = rows.list(alloc)?;
+    drop(rows);
     let lines = rows_text(alloc, schema, &entries)?;
+    drop(entries);
+    if text.is_empty() {
+        *text = lines;
+        return Ok(());
+    }
     text.extend_from_slice(&lines)?;
     Ok(())
 }
 
-// Replays the log from no rows.
+// Replays the log from no rows. `Rows` if and only if it writes more than 65,536 different rows.
 fn replay_of<R: Threads + Sync>(
     rt: &R,
     alloc: Global,
@@ -99,65 +109,88 @@ fn replay_of<R: Threads + Sync>(
     )
 }
 
+/// Replays a log from no rows, or says which limit it exceeds.
+pub fn replay_log<R: Threads + Sync>(
+    rt: &R,
+    alloc: Global,
+    script: &Script,
+    log: &LogBuffer,
+    options: Options,
+) -> Result<Replayed, Refusal>
+    requires tables { log.now.tables ≡ script.now.tables }
+    requires options { AreOptions options }
+    ensures replayed { IfOk result
+        (λ r. IsReplayOver script.now log.now.txns r.replies r.rows) }
+    ensures within { OnOk result (excess_of_log log.now.txns ≡ None) }
+    ensures refused { IfErr result
+        (λ refusal. IsRefusedBy (option_map Limit (excess_of_log log.now.txns)) refusal) }
+{
+    let plan = match plan_within(log) {
+        Ok(plan) => plan,
+        Err(excess) => return Err(Refusal::Limit(excess)),
+    };
+    match replay_of(rt, alloc, script, &plan, options) {
+        Ok(replayed) => Ok(replayed),
+        Err(ReplayFault::Rows) => Err(Refusal::Limit(Excess::Rows)),
+        Err(ReplayFault::NoMemory) => Err(Refusal::NoMemory),
+    }
+}
+
+/// Replays a log that exceeds no limit from no rows.
+pub fn replay_within<R: Threads + Sync>(
+    rt: &R,
+    alloc: Global,
+    script: &Script,
+    log: &LogBuffer,
+    options: Options,
+) -> Result<Replayed, NoMemory>
+    requires tables { log.now.tables ≡ script.now.tables }
+    requires limits { excess_of_log log.now.txns ≡ None }
+    requires options { AreOptions options }
+    ensures { IfOk result (λ r. IsReplayOver script.now log.now.txns r.replies r.rows) }
+{
+    let plan = match plan_within(log) {
+        Ok(plan) => plan,
+        Err(_) => unreachable!(),
+    };
+    match replay_of(rt, alloc, script, &plan, options) {
+        Ok(replayed) => Ok(replayed),
+        Err(ReplayFault::NoMemory) => Err(NoMemory),
+        Err(ReplayFault::Rows) => unreachable!(),
+    }
+}
+
 /// Appends the replies, each at a place of at most `total`, and the rows.
 pub fn push_replies_and_rows(
     alloc: Global,
     text: &mut Vec<u8>,
     schema: &Schema,
-    replies: &[Reply],
-    rows: &Rows,
+    replies: Replies,
+    rows: Rows,
     total: u32,
 ) -> Result<(), NoMemory>
-    requires { All (λ (reply : ReplyValue). reply.place ≤ total) replies.now }
+    requires { All (λ (reply : ReplyValue). reply.place ≤ total) replies }
     ensures { OnOk result (text.new.items ≡ text.old.items
-        ++ (flat_map (reply_text schema.now total) replies.now
-        ++ rows_text schema.now rows.now)) }
+        ++ (flat_map (reply_text schema.now total) replies ++ rows_text schema.now rows)) }
 {
-    push_replies(alloc, text, schema, replies, total)?;
+    push_replies(alloc, text, schema, replies.as_slice(), total)?;
+    drop(replies);
     push_rows(alloc, text, schema, rows)
 }
 
-// Appends what a replay gave.
-fn push_replayed(
+/// Appends what a replay gave, with each reply at a place of at most `total`.
+pub fn push_replayed(
     alloc: Global,
     text: &mut Vec<u8>,
     script: &Script,
-    replayed: &Replayed,
+    replayed: Replayed,
     total: u32,
 ) -> Result<(), NoMemory>
-    requires { All (λ (reply : ReplyValue). reply.place ≤ total) replayed.now.replies }
+    requires { All (λ (reply : ReplyValue). reply.place ≤ total) replayed.replies }
     ensures { OnOk result (text.new.items ≡ text.old.items
-        ++ (flat_map (reply_text script.now.tables total) replayed.now.replies
-        ++ rows_text script.now.tables replayed.now.rows)) }
+        ++ (flat_map (reply_text script.now.tables total) replayed.replies
+        ++ rows_text script.now.tables replayed.rows)) }
 {
-    let replies = replayed.replies.as_slice();
-    let rows = &replayed.rows;
+    let Replayed { replies, rows, .. } = replayed;
     push_replies_and_rows(alloc, text, script.schema(), replies, rows, total)
-}
-
-/// Appends the replies to the script's reads, each at some place of the log, and the rows after the
-/// whole log. `Rows` if and only if the log writes more than 65,536 different rows.
-pub fn push_replay<R: Threads + Sync>(
-    rt: &R,
-    alloc: Global,
-    text: &mut Vec<u8>,
-    script: &Script,
-    plan: &Plan<'_>,
-    options: Options,
-) -> Result<(), ReplayFault>
-    requires tables { plan.now.tables ≡ script.now.tables }
-    requires options { AreOptions options }
-    ensures text { OnOk result
-        (PrintsReplay script.now plan.now.txns text.old.items text.new.items) }
-    ensures rows { result ≡ Err ReplayFault.Rows → max_rows < row_count (names_in plan.now.txns) }
-    ensures few { OnOk result (row_count (names_in plan.now.txns) ≤ max_rows) }
-{
-    let replayed = match replay_of(rt, alloc, script, plan, options) {
-        Ok(replayed) => replayed,
-        Err(fault) => return Err(fault),
-    };
-    match push_replayed(alloc, text, script, &replayed, plan.log().transactions()) {
-        Ok(()) => Ok(()),
-        Err(NoMemory) => Err(ReplayFault::NoMemory),
-    }
 }

@@ -4,18 +4,21 @@ ghost use Rattle.std.specs.Prelude.{◌≡◌, IfSome, map, string_bytes};
 ghost use Rattle.c5_words.specs.Meaning.{meaning_of};
 ghost use Rattle.c5_words.specs.Meaning.{AreOptions};
 ghost use Rattle.c5_driver.specs.Meanings.{MakesText};
-ghost use Rattle.c5_driver.specs.Runs.{Ends, ProgramEnds, PrintsNothing, ProgramCompletes};
-ghost use Rattle.c5_driver.specs.Runs.{ReadsNothing, Headline};
+ghost use Rattle.c5_driver.specs.Runs.{Ends, ProgramEnds, PrintsNothing, PrintsSummary};
+ghost use Rattle.c5_driver.specs.Runs.{ProgramCompletes, ReadsNothing, Headline};
 ghost use Rattle.c5_driver.specs.Uses.{source_use, sink_use};
 
 use crate::apply::apply;
 use crate::backup::backup;
 use crate::clone::clone;
+use crate::generating::generated_text;
 use crate::primary::primary;
 use crate::printing::{print, refuse};
 use crate::refusal::Refusal;
 use crate::status::Status;
+use crate::turns::turns;
 use c5_io::{Sink, Source};
+use c5_rows::NoMemory;
 use c5_words::{Command, Options, Request, WordsFault, help_text, request_of, version_text};
 use std::alloc::Global;
 use std::thread::Threads;
@@ -37,6 +40,7 @@ fn text_of<R: Threads + Sync, S: Source>(
         Command::Primary => primary(rt, alloc, options, source),
         Command::Backup => backup(rt, alloc, options, source),
         Command::Clone => clone(rt, alloc, options, source),
+        Command::Turns => turns(alloc, options, source),
     }
 }
 
@@ -64,6 +68,24 @@ fn run<R: Threads + Sync, S: Source, K: Sink>(
     }
 }
 
+// Prints the summary of a generated script.
+fn summarize<R: Threads + Sync, K: Sink>(
+    rt: &R,
+    alloc: Global,
+    options: Options,
+    sink: &mut K,
+) -> Status
+    requires { AreOptions options }
+    ensures ends { PrintsSummary options.count result
+        (sink_use K.held K.faults K.flushed sink.old sink.new) }
+    ensures unwritten { PrintsNothing result → sink.new ≡ sink.old }
+{
+    match generated_text(rt, alloc, options) {
+        Ok(text) => print(sink, &text),
+        Err(NoMemory) => Status::NoMemory,
+    }
+}
+
 /// Does all that the program does: takes the words of the command line after the program's name,
 /// reads the source, writes the sink, and returns how the run ended.
 pub fn c5<R: Threads + Sync, S: Source, K: Sink>(
@@ -86,13 +108,14 @@ pub fn c5<R: Threads + Sync, S: Source, K: Sink>(
         (source_use S.left S.faults source.old source.new)
         (sink_use K.held K.faults K.flushed sink.old sink.new) }
 
-    // Nothing is read if the words are refused or ask for a page; with ReadFault and NoMemory
-    // nothing is written.
+    // Nothing is read if the words are refused or ask for a summary or a page; with ReadFault and
+    // NoMemory nothing is written.
     ensures unread { ReadsNothing (meaning_of (map string_bytes words.now))
         → source.new ≡ source.old }
     ensures unwritten { PrintsNothing result → sink.new ≡ sink.old }
 
-    // An accepted input gives Ok or NoMemory, if no read and no write failed.
+    // An accepted input gives Ok or NoMemory, if no read and no write failed; without an input any
+    // run does.
     ensures complete { IfSome (meaning_of (map string_bytes words.now))
         (λ request. ProgramCompletes request result
         (source_use S.left S.faults source.old source.new)
@@ -100,6 +123,7 @@ pub fn c5<R: Threads + Sync, S: Source, K: Sink>(
 {
     match request_of(alloc, words) {
         Ok(Request::Run { command, options }) => run(rt, alloc, command, options, source, sink),
+        Ok(Request::Generate { options }) => summarize(rt, alloc, options, sink),
         Ok(Request::Help) => print(sink, help_text().as_bytes()),
         Ok(Request::Version) => print(sink, version_text().as_bytes()),
         Err(WordsFault::Refused) => {

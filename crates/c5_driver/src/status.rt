@@ -5,7 +5,7 @@ ghost use Rattle.std.specs.Prelude.{◌≡◌};
 /// How a run ends.
 #[derive(Clone, Copy, PartialEq, Eq)]
 pub enum Status {
-    /// The input was read to its end and the whole text was written.
+    /// The input was read to its end, if there is one, and the whole text was written.
     Ok,
     /// The words of the command line aren't a command.
     BadWords,

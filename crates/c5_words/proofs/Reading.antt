@@ -1,6 +1,6 @@
 -- What the matches of a parse say of the run.
 use Rattle.std.proofs.Common.{◌≡◌, ◌∙◌, ◌≤◌, ℕ, refl, sym, subst, ap, arith, List}
-use Rattle.std.proofs.Common.{Option, Some, None, Result, Ok, Err, codes, option_map}
+use Rattle.std.proofs.Common.{Option, Some, None, Result, Ok, Err, codes}
 use Rattle.std.specs.Prelude.{IfSome, unwrap_or}
 use Rattle.std.specs.Option.{option_map_or}
 use Rattle.std.specs.Str.Parse.{ParsesUnsigned, digits_value, without_leading_plus}
@@ -9,11 +9,8 @@ use Rattle.clap.specs.Values.{IsUnsignedIn}
 use Rattle.clap.specs.Walk.{Text, first_of, one_of, rows_of}
 use Rattle.clap.proofs.WalkLemmas.{first_value-rows, one_text-rows}
 use Rattle.clap.specs.declared.parser.matches.Found.{Found}
-use Rattle.c5_words.specs.Names.{command_named}
 use Rattle.c5_words.specs.Program.{default_count, max_count}
-use Rattle.c5_words.specs.Meaning.{option_number, run_of}
-use Rattle.c5_words.specs.declared.command.Command.{Command}
-use Rattle.c5_words.specs.declared.request.Request.TheVariants.{Run}
+use Rattle.c5_words.specs.Meaning.{option_number, request_named, run_of}
 
 -- `get_one` of an option whose value is in a range gives its number, or nothing if it isn't given
 pub number_read : (E : Type 0) (G : List ℕ → Result ℕ E → Type 0) (f : Found) (name : Text)
@@ -57,17 +54,16 @@ number_within f name most default n some few within is =
         let same : n ≡ digits_value 10 (without_leading_plus t) = rw e at is in
         (rw same h.2, rw same h.3)
 
-pub run_is : (f : Found) (word : Text) (o : Option Command) (a b n : ℕ)
-    → Some word ≡ first_value f (codes "command") → o ≡ command_named word
+pub run_is : (f : Found) (word : Text) (a b n : ℕ) → Some word ≡ first_value f (codes "command")
     → a ≡ option_number (codes "threads") 1 (rows_of f)
     → b ≡ option_number (codes "workers") 1 (rows_of f)
     → n ≡ option_number (codes "count") default_count (rows_of f)
     → run_of (rows_of f)
-    ≡ option_map (λ (k : Command). Run k (record { threads = a; workers = b; count = n })) o
-run_is f word o a b n first named threads workers count =
+    ≡ request_named (record { threads = a; workers = b; count = n }) word
+run_is f word a b n first threads workers count =
     let there : first_of (codes "command") (rows_of f) ≡ Some word =
     sym (first ∙ first_value-rows f (codes "command")) in
-    rw (there, ← named, ← threads, ← workers, ← count) refl
+    rw (there, ← threads, ← workers, ← count) refl
 
 pub no_run : (f : Found) → None ≡ first_value f (codes "command") → run_of (rows_of f) ≡ None
 no_run f first =

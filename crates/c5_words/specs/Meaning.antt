@@ -1,7 +1,8 @@
 -- What a list of words asks for: the meaning that `clap` gives it, by the command line `program`.
 use Rattle.std.specs.Prelude.{◌≡◌, ◌≤◌, ℕ, ⊤, List, [], ◌∷◌, codes, Option, Some, None}
-use Rattle.std.specs.Prelude.{Result, Ok, Err, option_map, option_and_then}
+use Rattle.std.specs.Prelude.{Result, Ok, Err, option_map, option_and_then, if◌then◌else◌}
 use Rattle.std.specs.Option.{option_map_or}
+use Rattle.std.specs.Str.{bytes_eq}
 use Rattle.std.specs.Str.Parse.{digits_value, without_leading_plus}
 use Rattle.clap.specs.Walk.{Row, Text, first_of, one_of}
 use Rattle.clap.specs.Simple.{matches_of}
@@ -14,7 +15,7 @@ use Rattle.c5_words.specs.Names.{command_named}
 use Rattle.c5_words.specs.Program.{program, default_count, max_count}
 use Rattle.c5_words.specs.declared.options.Options.{Options}
 use Rattle.c5_words.specs.declared.request.Request.{Request}
-use Rattle.c5_words.specs.declared.request.Request.TheVariants.{Run, Help, Version}
+use Rattle.c5_words.specs.declared.request.Request.TheVariants.{Run, Generate, Help, Version}
 use Rattle.c5_words.specs.declared.request.WordsFault.{WordsFault}
 use Rattle.c5_words.specs.declared.request.WordsFault.TheVariants.{Refused, NoMemory}
 
@@ -31,10 +32,15 @@ options_of rows = record {
   count = option_number (codes "count") default_count rows;
 }
 
--- the run that accepted words ask for: none if their command has another name than those known
+-- the run with these options that a word asks for: none if it names no command
+abbrev pub request_named : Options → Text → Option Request
+request_named options word = if bytes_eq word (codes "gen") then Some (Generate options)
+    else option_map (λ command. Run command options) (command_named word)
+
+-- the run that accepted words ask for: none if the word of their command names none
 abbrev pub run_of : List Row → Option Request
-run_of rows = option_map (λ command. Run command (options_of rows))
-    (option_and_then command_named (first_of (codes "command") rows))
+run_of rows =
+    option_and_then (request_named (options_of rows)) (first_of (codes "command") rows)
 
 -- what words ask for that `clap` answers with an error of this kind
 abbrev pub request_for : ErrorKind → Option Request
@@ -69,5 +75,6 @@ pub record AreOptions (options : Options) : Type 0 where
 -- the numbers of a run are within their ranges
 abbrev pub IsWithin : Request → Type 0
 IsWithin (Run command options) = AreOptions options
+IsWithin (Generate options) = AreOptions options
 IsWithin Help = ⊤
 IsWithin Version = ⊤

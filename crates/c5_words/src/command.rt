@@ -3,7 +3,7 @@
 ghost use Rattle.std.specs.Prelude.{◌≡◌};
 ghost use Rattle.c5_words.specs.Names.{command_named};
 
-/// What the program is asked to do.
+/// What the program is asked to do with an input.
 #[derive(Clone, Copy)]
 pub enum Command {
     /// Prints the rows after a whole log.
@@ -14,6 +14,8 @@ pub enum Command {
     Backup,
     /// Runs a script on a primary and replays its log on a backup, with threads.
     Clone,
+    /// Runs a script in order and replays its log step by step, in the order of its schedule.
+    Turns,
 }
 
 /// The command of this name; `None` if the word names none.
@@ -31,6 +33,9 @@ pub fn command_named(word: &str) -> Option<Command>
     }
     if word == "clone" {
         return Some(Command::Clone);
+    }
+    if word == "turns" {
+        return Some(Command::Turns);
     }
     None
 }

@@ -5,8 +5,8 @@ ghost use Rattle.clap.specs.Words.{found_of, one_text, rows_of};
 ghost use Rattle.clap.specs.Values.{IsUnsignedIn};
 ghost use Rattle.c5_rows.specs.Sizes.{max_threads, max_workers};
 ghost use Rattle.c5_words.specs.Program.{max_count};
-ghost use Rattle.c5_words.specs.Meaning.{Answers, IsWithin, meaning_of, option_number, request_for};
-ghost use Rattle.c5_words.specs.Meaning.{run_of};
+ghost use Rattle.c5_words.specs.Meaning.{Answers, AreOptions, IsWithin, meaning_of, option_number};
+ghost use Rattle.c5_words.specs.Meaning.{request_for, request_named, run_of};
 
 use crate::command::command_named;
 use crate::options::{DEFAULT_COUNT, Options};
@@ -22,6 +22,21 @@ fn number_given(matches: &ArgMatches<'_>, name: &str, default: u32) -> u32
     ensures { result ≡ option_number name.now default (rows_of (found_of matches.now)) }
 {
     matches.get_one::<u32>(name).unwrap_or(default)
+}
+
+// The run that a word asks for; `None` if it names no command.
+fn request_named(options: Options, word: &str) -> Option<Request>
+    requires { AreOptions options }
+    ensures meaning { result ≡ request_named options word.now }
+    ensures within { IfSome result IsWithin }
+{
+    if word == "gen" {
+        return Some(Request::Generate { options });
+    }
+    match command_named(word) {
+        Some(command) => Some(Request::Run { command, options }),
+        None => None,
+    }
 }
 
 // The run that words ask for, if `clap` accepts them.
@@ -41,8 +56,8 @@ fn run_of(matches: &ArgMatches<'_>) -> Result<Request, WordsFault>
         count: number_given(matches, "count", DEFAULT_COUNT),
     };
     match matches.get_str("command") {
-        Some(word) => match command_named(word) {
-            Some(command) => Ok(Request::Run { command, options }),
+        Some(word) => match request_named(options, word) {
+            Some(request) => Ok(request),
             None => Err(WordsFault::Refused),
         },
         None => Err(WordsFault::Refused),

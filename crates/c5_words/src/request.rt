@@ -6,10 +6,15 @@ use crate::options::Options;
 /// What a list of words asks for.
 #[derive(Clone, Copy)]
 pub enum Request {
-    /// A run of a command.
+    /// A run of a command over an input.
     Run {
         /// The command that the positional word names.
         command: Command,
+        /// The numbers of the options.
+        options: Options,
+    },
+    /// The summary of a generated script, which the word `gen` asks for. There is no input.
+    Generate {
         /// The numbers of the options.
         options: Options,
     },

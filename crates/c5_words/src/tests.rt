@@ -9,6 +9,8 @@ enum Asked {
     Primary(u32, u32),
     Backup(u32, u32),
     Clone(u32, u32),
+    Turns(u32, u32),
+    Generate(u32, u32),
     Help,
     Version,
     Refused,
@@ -26,7 +28,9 @@ fn answer_to(alloc: Global, words: &[&str]) -> Result<Asked, Fail> {
             Command::Primary => Asked::Primary(options.threads, options.workers),
             Command::Backup => Asked::Backup(options.threads, options.workers),
             Command::Clone => Asked::Clone(options.threads, options.workers),
+            Command::Turns => Asked::Turns(options.threads, options.workers),
         },
+        Ok(Request::Generate { options }) => Asked::Generate(options.workers, options.count),
         Ok(Request::Help) => Asked::Help,
         Ok(Request::Version) => Asked::Version,
         Err(WordsFault::Refused) => Asked::Refused,
@@ -37,7 +41,7 @@ fn answer_to(alloc: Global, words: &[&str]) -> Result<Asked, Fail> {
 #[test]
 fn words_and_what_they_ask_for(rt: HostRuntime) -> Result<(), Fail> {
     let alloc = rt.alloc();
-    let table: [(&[&str], Asked); 18] = [
+    let table: [(&[&str], Asked); 20] = [
         (&["clone"], Asked::Clone(1, 1)),
         (&[], Asked::Refused),
         (&["frob"], Asked::Refused),
@@ -55,6 +59,8 @@ fn words_and_what_they_ask_for(rt: HostRuntime) -> Result<(), Fail> {
         ),
         (&["backup", "--workers", "0"], Asked::Refused),
         (&["backup", "--workers", "2"], Asked::Backup(1, 2)),
+        (&["turns", "--workers", "2"], Asked::Turns(1, 2)),
+        (&["gen", "--workers", "2"], Asked::Generate(2, 1_000)),
         (&["clone", "--count", "65537"], Asked::Refused),
         (&["--", "apply"], Asked::Apply(1, 1)),
         (&["--help"], Asked::Help),

@@ -14,11 +14,13 @@ commands:
   primary    reads a script; writes the log of its transactions
   backup     reads a script, a line `log`, a log; prints the replies, then the rows
   clone      reads a script; prints the order of its run, the replies, the rows
+  turns      the same, each step in the order of the script's schedule
+  gen        reads nothing; runs and replays a script that it makes; prints its totals
 
 options:
   --threads N    threads of a run, 1 to 16, default 1 (primary, clone)
-  --workers N    workers of a replay, 1 to 16, default 1 (backup, clone)
-  --count N      transactions to make, 1 to 65536, default 1000 (no command yet)
+  --workers N    workers of a replay, 1 to 16, default 1 (backup, clone, turns, gen)
+  --count N      transactions to make, 1 to 65536, default 1000 (gen)
   -h, --help     prints this text, and reads nothing
   -V, --version  prints the version, and reads nothing
 

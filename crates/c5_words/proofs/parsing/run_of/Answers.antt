@@ -1,4 +1,4 @@
-use Rattle.std.proofs.Common.{Some, None, arith}
+use Rattle.std.proofs.Common.{◌∙◌, sym, arith}
 use Rattle.clap.specs.Matches.{found_of}
 use Rattle.std.proofs.Common.{codes}
 use Rattle.c5_rows.specs.Sizes.{max_threads, max_workers}
@@ -6,16 +6,8 @@ use Rattle.c5_words.specs.Program.{default_count, max_count}
 use Rattle.c5_words.proofs.Reading.{number_within, run_is, no_run}
 use Rattle.c5_words.proofs.parsing.run_of.Goals as goal
 
-pub returns-in-Some-command_named-clause-meaning : goal.returns-in-Some-command_named-clause-meaning
-returns-in-Some-command_named-clause-meaning c =
-    run_is (found_of c.args.matches.now) c.in-Some.word.now
-    (Some c.in-Some-command_named.command) c.number_given.result c.number_given-2.result
-    c.number_given-3.result
-    c.in-Some.ensures c.in-Some-command_named.ensures c.number_given.ensures
-    c.number_given-2.ensures c.number_given-3.ensures
-
-pub returns-in-Some-command_named-clause-within : goal.returns-in-Some-command_named-clause-within
-returns-in-Some-command_named-clause-within c =
+pub request_named-requires : goal.request_named-requires
+request_named-requires c =
     let threads = number_within (found_of c.args.matches.now)
     (codes "threads") max_threads 1 c.number_given.result (omega arith)
     (omega arith) c.requires.threads c.number_given.ensures in
@@ -34,12 +26,19 @@ returns-in-Some-command_named-clause-within c =
       few_count = count.1;
     }
 
-pub returns-in-None-command_named-clause-meaning : goal.returns-in-None-command_named-clause-meaning
-returns-in-None-command_named-clause-meaning c =
-    run_is (found_of c.args.matches.now) c.in-Some.word.now None c.number_given.result
-    c.number_given-2.result c.number_given-3.result
-    c.in-Some.ensures c.in-None-command_named.ensures c.number_given.ensures
+pub returns-in-Some-request_named-clause-meaning : goal.returns-in-Some-request_named-clause-meaning
+returns-in-Some-request_named-clause-meaning c =
+    run_is (found_of c.args.matches.now) c.in-Some.word.now c.number_given.result
+    c.number_given-2.result c.number_given-3.result c.in-Some.ensures c.number_given.ensures
     c.number_given-2.ensures c.number_given-3.ensures
+    ∙ sym c.in-Some-request_named.ensures.meaning
+
+pub returns-in-None-request_named-clause-meaning : goal.returns-in-None-request_named-clause-meaning
+returns-in-None-request_named-clause-meaning c =
+    run_is (found_of c.args.matches.now) c.in-Some.word.now c.number_given.result
+    c.number_given-2.result c.number_given-3.result c.in-Some.ensures c.number_given.ensures
+    c.number_given-2.ensures c.number_given-3.ensures
+    ∙ sym c.in-None-request_named.ensures.meaning
 
 pub returns-in-None-clause-meaning : goal.returns-in-None-clause-meaning
 returns-in-None-clause-meaning c = no_run (found_of c.args.matches.now) c.in-None.ensures
