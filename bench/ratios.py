@@ -9,6 +9,7 @@ from command import LARGE_PAGES, PROGRAM, TOP, once, peak
 
 sys.path.insert(0, os.path.join(TOP, "tests"))
 import reference  # noqa: E402
+from inputs import GENERATED, TRANSACTIONS  # noqa: E402
 
 RUNS = 11
 
@@ -139,13 +140,29 @@ def threads(folder):
         most_memory(what, 100 * os.path.getsize(script) / 1e6, (["primary", "--threads", "4"], script))
 
 
+# `gen` beside the commands that do the same of its script as a text; a text of 65,536 transactions would be too long.
+def gen(folder):
+    script, none = folder.file("generated.c5s"), os.devnull
+    ratio(f"{GENERATED:,} generated transactions", 1.5, (["gen", "--count", str(GENERATED), "--workers", "1"], none),
+          (["primary"], script), (["backup", "--workers", "1"], folder.backup("generated")))
+    most = ["gen", "--count", str(TRANSACTIONS), "--workers"]
+    ratio(f"{TRANSACTIONS:,} generated transactions", 2, ([*most, "4"], none), ([*most, "1"], none))
+    most_memory(f"{TRANSACTIONS:,} generated transactions", 250, ([*most, "4"], none))
+
+
+# A schedule of as many words as a script may have, over as many transactions.
+def turns(folder):
+    script = folder.file("schedule.c5s")
+    ratio("65,536 words over 65,536 transactions", 2, (["turns", "--workers", "4"], script), (["clone", "--workers", "4"], script))
+
+
 # The worst names for a board's index. What they may cost isn't limited.
 def bucket(folder):
     ratio("16,384 rows whose names begin at one bucket, and as many others", None,
           (["backup"], folder.backup("one_bucket")), (["backup"], folder.backup("many_buckets")))
 
 
-PARTS = {"replay": replay, "keeps_up": keeps_up, "clone": clone, "threads": threads, "bucket": bucket}
+PARTS = {"replay": replay, "keeps_up": keeps_up, "clone": clone, "threads": threads, "gen": gen, "turns": turns, "bucket": bucket}
 
 
 def main():

@@ -432,13 +432,16 @@ class Comparison:
             self.answers["words", "bad words"] += 1
             self.run(words, repr(words), b"", 2, b"bad words\n")
         for command, data in (("apply", log), ("primary", script), ("backup", script + b"log\n" + log), ("clone", script)):
-            folder = os.open(TOP, os.O_RDONLY)
-            self.answers[command, "read fails"] += 1
-            self.run([command], "a folder", None, 5, b"", stdin=folder)
-            os.close(folder)
-            with open("/dev/full", "wb") as full:
-                self.answers[command, "write fails"] += 1
-                self.run([command], "a full device", data, 6, b"", stdout=full)
+            self.compare_streams_of(command, data)
+
+    def compare_streams_of(self, command, data):
+        folder = os.open(TOP, os.O_RDONLY)
+        self.answers[command, "read fails"] += 1
+        self.run([command], "a folder", None, 5, b"", stdin=folder)
+        os.close(folder)
+        with open("/dev/full", "wb") as full:
+            self.answers[command, "write fails"] += 1
+            self.run([command], "a full device", data, 6, b"", stdout=full)
 
     # Prints the counts, also of runs in another order than the script's (which threads may give, and need not), and of what is wanted of the seed and never came.
     def finish(self, answers, pairs=()):

@@ -20,16 +20,20 @@ import tempfile
 import compare
 import meaning
 import reference
+import schedule
 from compare import PROGRAM, TOP
 
-REFUSED = [["clone"], ["clone", "--threads", "4", "--workers", "4"], ["backup", "--workers", "2"], ["apply"], ["primary"]]
-# The outputs of these runs are the same each time: one thread, and no place but 0 to read at.
-FAILING = [(["apply"], "moves"), (["primary"], "moves"), (["backup"], "moves"), (["clone"], "moves"), (["clone", "--workers", "3"], "reads")]
+REFUSED = [["clone"], ["clone", "--threads", "4", "--workers", "4"], ["backup", "--workers", "2"], ["turns", "--workers", "2"],
+           ["gen", "--workers", "2", "--count", "3"], ["apply"], ["primary"]]
+# The outputs of these runs are the same each time: one thread and no place but 0 to read at, or a schedule.
+FAILING = [(["apply"], "moves"), (["primary"], "moves"), (["backup"], "moves"), (["clone"], "moves"), (["clone", "--workers", "3"], "reads"),
+           (["turns", "--workers", "2"], "turns")]
 PARTS = ["refused", "failing", "cut", "corners", "load"]
 QUICK = PARTS[:-1]
 SECONDS = 120
 
 TABLE = b"table acct int\n"
+TURNS = b"turns w2 w2 v s1 w1 w1 w2 v s2 s1 w1 w1 w2 w1 v s3\n"
 MOVES = b"".join(b"txn\nput acct a%d %d\nput acct b%d 0\nend\ntxn\nneed acct a%d 0 ge 5\nadd acct b%d 0 5\nend\n" % (n, n, n, n, n) for n in range(12))
 READS = b"".join(b"read %d\nrow acct a%d\nsum acct 0 a1 a2 b7\nend\n" % (n % 3 + 1, n) for n in range(8))
 
@@ -53,7 +57,9 @@ def input_of(command, data):
 
 
 # The commands of which the whole output is known: (status, output) of words and an input.
-EXACT = {"apply": lambda words, data: reference.answer("apply", data)[:2]}
+EXACT = {"apply": lambda words, data: reference.answer("apply", data)[:2],
+         "turns": lambda words, data: schedule.turns(data, int(words[-1]))[:2],
+         "gen": lambda words, data: (0, schedule.summary_by_run(int(words[-1])))}
 
 
 # ---- runs
@@ -129,7 +135,7 @@ class Checks:
 
     def failing(self):
         for words, name in FAILING:
-            data = input_of(words[0], TABLE + {"moves": MOVES, "reads": READS}[name])
+            data = input_of(words[0], TABLE + {"moves": MOVES, "reads": READS, "turns": MOVES + READS + TURNS}[name])
             for pieces in (1, 10) if self.quick else (1, 10, 150):
                 self.fail_each(words, name, data, pieces)
 
@@ -169,7 +175,7 @@ class Checks:
         empty = TABLE + READS
         many = TABLE + MOVES + b"".join(b"read %d\nsum acct 0 a1 b1\nend\n" % (n % 16 + 1) for n in range(256))
         one = min(os.sched_getaffinity(0))
-        for words in (["clone", "--threads", "16", "--workers", "16"], ["backup", "--workers", "16"]):
+        for words in (["clone", "--threads", "16", "--workers", "16"], ["backup", "--workers", "16"], ["turns", "--workers", "16"]):
             self.check(words, "no transactions", input_of(words[0], empty))
             self.check(words, "a table alone", input_of(words[0], TABLE))
             self.check(words, "256 read blocks", input_of(words[0], many))

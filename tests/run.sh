@@ -252,7 +252,7 @@ if command -v python3 >/dev/null 2>&1; then
     done
     run_checks hostile.py quick
 else
-    echo "tests/compare.py, tests/hostile.py: skipped, as there is no python3: the program was not compared with the second implementation"
+    echo "tests/compare*.py, tests/hostile.py: skipped, as there is no python3: the program was not compared with the second implementation"
 fi
 
 echo "$passed passed, $failed failed"

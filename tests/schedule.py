@@ -44,33 +44,47 @@ class Machine:
         if not 1 <= worker <= self.workers:
             self.seen.add("a worker that isn't there")
             return [], None
-        installed, put_off = [], None
+        installed = self.again(worker)
+        tried, put_off = self.next_number(worker)
+        if installed and (tried or put_off):
+            self.seen.add("a number that was put off, and the next one, in one turn")
+        return installed + tried, put_off
+
+    # The numbers that are put off are tried, ascending: those that it installed.
+    def again(self, worker):
+        installed = []
         for number in sorted(self.put_off[worker]):
             if self.can_install(number):
                 self.done.add(number)
                 self.put_off[worker].remove(number)
                 installed.append(number)
+        return installed
+
+    # The next number is tried: whether it was installed, and whether it was put off.
+    def next_number(self, worker):
         number = self.next[worker]
-        if number <= self.last and len(self.put_off[worker]) >= MOST_PUT_OFF:
+        if number > self.last:
+            return [], None
+        if len(self.put_off[worker]) >= MOST_PUT_OFF:
             self.seen.add("a full list")
-        elif number <= self.last:
-            if self.can_install(number):
-                self.done.add(number)
-                installed.append(number)
-            else:
-                self.put_off[worker].add(number)
-                self.joined += 1
-                put_off = number
-            self.next[worker] += self.workers
-        return installed, put_off
+            return [], None
+        self.next[worker] += self.workers
+        if self.can_install(number):
+            self.done.add(number)
+            return [number], None
+        self.put_off[worker].add(number)
+        self.joined += 1
+        return [], number
 
     def visible(self):
         for worker in self.least:
             while self.least[worker] in self.done:
                 self.least[worker] += self.workers
-        least = min(self.least.values())
+        least, before = min(self.least.values()), self.place
         while self.place + 1 < len(self.ends) and self.ends[self.place + 1] < least:
             self.place += 1
+        if self.place == before and len(self.done) > self.ends[self.place]:
+            self.seen.add("an installed write that is not visible yet")
 
     # A turn of a session: whether it had a read left.
     def session(self, session):
@@ -107,8 +121,8 @@ class Machine:
 
 
 # The places of the replies in their order, how many writes were put off, and what was seen.
-def run(txns, workers, reads, words):
-    machine = Machine(txns, workers, reads)
+def run(txns, workers, reads, words, kind=Machine):
+    machine = kind(txns, workers, reads)
     for word in words:
         machine.word(word)
     if machine.joined:
