@@ -282,6 +282,7 @@ def main():
             comparison.compare_turns(data, workers, name)
     for name, workers, data in large_inputs(rand):
         comparison.compare_turns(data, workers, name)
+    comparison.compare_turns(b"table t int\ntable t int\n", 1, "a table named twice")
     comparison.compare_streams_of("turns", b"table t int\n")
     sys.exit(0 if comparison.finish_turns() else 1)
 
