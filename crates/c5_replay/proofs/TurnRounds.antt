@@ -206,7 +206,7 @@ rounds-made workers txns m (suc most) x owners law h below some high =
     by true e more = e
     by false e more = more (another e (ltb (length (names_in txns)) (x + 1)) refl)
 
--- law R: rounds until all is done are not more than one more than the writes
+-- one round more than there are writes is enough
 pub closing-made : (workers : ℕ) (txns : List Txn) (m : TurnMachine) → NumbersAreOwned workers
     → PredecessorsAreLast (names_in txns) → IsMachine workers (names_in txns) m
     → is_all_done (length (names_in txns)) (after_closing txns m).done ≡ true

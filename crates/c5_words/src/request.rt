@@ -13,7 +13,7 @@ pub enum Request {
         /// The numbers of the options.
         options: Options,
     },
-    /// The summary of a generated script, which the word `gen` asks for. There is no input.
+    /// The summary of a generated script, which the word `gen` asks for. It reads no input.
     Generate {
         /// The numbers of the options.
         options: Options,
