@@ -11,7 +11,7 @@ use Rattle.c5_board.specs.Words.{writes_in, buckets_in, word_count}
 use Rattle.c5_board.specs.Boards.{Board, Pass}
 use Rattle.c5_board.specs.Held.{board_of, IsBoard}
 use Rattle.c5_board.specs.Rule.{IsKept}
-use Rattle.c5_board.specs.Tells.{Seated}
+use Rattle.c5_board.specs.StepFacts.{Seated}
 use Rattle.c5_board.proofs.Facts.{Facts, facts}
 
 -- a seat of this board

@@ -23,7 +23,7 @@ use Rattle.c5_board.specs.Boards.{pass_of}
 use Rattle.c5_board.specs.Passes.{IsLookOf, IsHeadOf, CoversRow}
 use Rattle.c5_board.specs.Rule.{BoardWords, board_words, IsInstalled, IsFoundInstalled, WordsFit}
 use Rattle.c5_board.specs.Views.{with_installed, with_look}
-use Rattle.c5_board.specs.Tells.{Seated, Becomes, exchanges_head}
+use Rattle.c5_board.specs.StepFacts.{Seated, Becomes, exchanges_head}
 use Rattle.c5_board.proofs.Facts.{Facts}
 use Rattle.c5_board.proofs.WordLemmas.{HeadSet, head_set}
 use Rattle.c5_board.proofs.SetLemmas.{not_both, has-here, has-more, has-split, distinct-more}
@@ -74,7 +74,7 @@ module _ (me : Seated) (k : Facts me.0.log me.0.workers) where
     head_scheduled = dite (ℕ_discrete n 0) (λ z. omega arith)
         (λ ne. r.words.scheduled n (head_installed ne))
 
-    -- where w isn't installed, the head hasn't reached it, so it is at most the predecessor
+    -- if w isn't installed, the head hasn't reached it, so it is at most the predecessor
     head_small : (id : ℕ) → get_elem? s.views id ≡ some v
         → is_among (owner_of workers w) v.roles ≡ true → is_among w v.installed ≡ false
         → n ≤ predecessor_of (names_in log.txns) w

@@ -30,7 +30,7 @@ pub first_named : (txns : List Txn) (w : Write) → slice_get (writes_of txns) 0
 unfolding names_in
 first_named txns w e = named (writes_of txns) 0 w e
 
--- a log has a write where it has a name
+-- a log has a write if it has a name
 pub some_written : (log log' : Log) → log' ≡ log → 1 ≤ length (names_in log.txns)
     → 1 ≤ length (writes_of log'.txns)
 some_written log log' same some_name = let e = length-names_in log'.txns in

@@ -18,7 +18,7 @@ use Rattle.c5_board.proofs.SetLemmas.{listed-once}
 
 module _ (log : Log) (workers : ℕ) (k : Facts log workers) (s : Boarded)
     (r : IsKept log workers s) where
-  -- the view with the role of w's owner has w among its installed numbers where the head has
+  -- the view with the role of w's owner has w among its installed numbers if the head has
   -- reached it
   done : (w : ℕ) → IsInstalled log workers (the_words log workers s) w → IsDone s w
   done w is =

@@ -27,8 +27,8 @@ use Rattle.c5_board.specs.Passes.{IsLookOf, IsHeadOf, CoversRow, bucket_up_to}
 use Rattle.c5_board.specs.Rule.{BoardWords, IsInstalled, IsFoundInstalled}
 use Rattle.c5_board.specs.Views.{looked, with_look, with_floor, with_place}
 use Rattle.c5_board.specs.declared.known.Record.{Record}
-use Rattle.c5_board.specs.Tells.{Seated, Becomes, loads_head, loads_progress, loads_visible}
-use Rattle.c5_board.specs.Tells.{loads_record, loads_scheduled, loads_bucket}
+use Rattle.c5_board.specs.StepFacts.{Seated, Becomes, loads_head, loads_progress, loads_visible}
+use Rattle.c5_board.specs.StepFacts.{loads_record, loads_scheduled, loads_bucket}
 use Rattle.c5_board.proofs.Facts.{Facts}
 use Rattle.c5_board.proofs.SetLemmas.{with_number-here, with_number-else, with_number-length}
 use Rattle.c5_board.proofs.SetLemmas.{with_number-grows}

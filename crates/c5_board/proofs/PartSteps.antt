@@ -31,7 +31,7 @@ use Rattle.c5_board.proofs.SetLemmas.{greater-of, length-range, range-at, distin
 use Rattle.c5_board.proofs.SetLemmas.{distinct-filter, distinct-append}
 use Rattle.c5_board.proofs.SeatLemmas.{there, one_view, look_more, St, Rule, Seat, words_in}
 
--- what stands in a longer list stood in the list, or is the new element at its end
+-- what is in a longer list was in the list, or is the new element at its end
 snoc : {A : Type 0} (l : List A) (a b : A) (j : ℕ) → get_elem? (l ++ a ∷ []) j ≡ some b
     → ((get_elem? l j ≡ some b) × (j < length l)) ⊎ ((j ≡ length l) × (a ≡ b))
 snoc [] a b zero e = inr (refl, some-injective a b e)
@@ -719,7 +719,7 @@ module _ (log : Log) (workers : ℕ) (k : Facts log workers) where
     at_both = set_else (set s.views id (joined_view v w)) other id (spent_view log workers)
         (λ e. apart (sym e)) ∙ there s.views id v (joined_view v w) at
 
-    -- a role is with the joined seat where either part had it
+    -- a role is with the joined seat if either part had it
     role_joined : (b : Bool) (old : ℕ) (role : Known → Bool) → role w ≡ b
         → (role v ≡ true → role (joined_view v w) ≡ true)
         → (role w ≡ true → role (joined_view v w) ≡ true)

@@ -15,7 +15,7 @@ use Rattle.c5_board.specs.Views.{with_look, Taken, rest_view, part_view, joined_
 use Rattle.c5_board.specs.Cuts.{Holds}
 use Rattle.c5_board.proofs.Facts.{Facts}
 use Rattle.c5_board.proofs.SoundParts.{on_board, sound_rest, sound_part, sound_joined}
-use Rattle.c5_board.specs.Tells.{Seated, Becomes}
+use Rattle.c5_board.specs.StepFacts.{Seated, Becomes}
 
 -- a step's view is sound, and its place is the pass's
 pub still_pass : (p p' : Inside) (v : Known) → p'.place ≡ v.place → p.seat.me.1 ≡ []

@@ -43,7 +43,7 @@ one_view l j v w e f = some-injective v w (sym e ∙ f)
 
 -- ---- looks
 
--- a look stays true where more is known
+-- a look stays true when more is known
 pub look_more : (names : List RowName) (floors floors' : List ℕ)
     (place place' scheduled scheduled' : ℕ) → ((i : ℕ) → number_of floors i ≤ number_of floors' i)
     → place ≤ place' → scheduled ≤ scheduled'

@@ -22,8 +22,9 @@ use Rattle.c5_board.specs.Passes.{IsLookOf, IsHeadOf, IsSound, bucket_up_to}
 use Rattle.c5_board.specs.Rule.{BoardWords, board_words, Holders, IsInstalled, IsFoundInstalled}
 use Rattle.c5_board.specs.Rule.{HeadsFit, ProgressFits, RecordsFit, IndexFits, WordsFit}
 use Rattle.c5_board.specs.Views.{with_floor, with_place}
-use Rattle.c5_board.specs.Tells.{Seated, Becomes, stores_progress, stores_visible, stores_record}
-use Rattle.c5_board.specs.Tells.{stores_scheduled, stores_bucket}
+use Rattle.c5_board.specs.StepFacts.{Seated, Becomes, stores_progress, stores_visible}
+use Rattle.c5_board.specs.StepFacts.{stores_record}
+use Rattle.c5_board.specs.StepFacts.{stores_scheduled, stores_bucket}
 use Rattle.c5_board.proofs.Facts.{Facts}
 use Rattle.c5_board.proofs.WordLemmas.{SameHeads, SameProgress, link_set, progress_set}
 use Rattle.c5_board.proofs.WordLemmas.{scheduled_set, visible_set, bucket_set}

@@ -6,7 +6,7 @@ pub mod Passes
 pub mod Loads
 pub mod Rule
 pub mod Views
-pub mod Tells
+pub mod StepFacts
 pub mod Cuts
 pub mod First
 pub mod Law

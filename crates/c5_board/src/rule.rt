@@ -74,7 +74,7 @@ impl<J: Picks> Join<Known> for Unites<J> {
 pub struct LoadsHead;
 
 impl Play<(), Known> for LoadsHead {
-    ghost use Rattle.c5_board.specs.Tells.{loads_head};
+    ghost use Rattle.c5_board.specs.StepFacts.{loads_head};
 
     ghost then = { loads_head };
 }
@@ -83,7 +83,7 @@ impl Play<(), Known> for LoadsHead {
 pub struct ExchangesHead;
 
 impl Play<(), Known> for ExchangesHead {
-    ghost use Rattle.c5_board.specs.Tells.{exchanges_head};
+    ghost use Rattle.c5_board.specs.StepFacts.{exchanges_head};
 
     ghost then = { exchanges_head };
 }
@@ -92,7 +92,7 @@ impl Play<(), Known> for ExchangesHead {
 pub struct StoresProgress;
 
 impl Play<(), Known> for StoresProgress {
-    ghost use Rattle.c5_board.specs.Tells.{stores_progress};
+    ghost use Rattle.c5_board.specs.StepFacts.{stores_progress};
 
     ghost then = { stores_progress };
 }
@@ -101,7 +101,7 @@ impl Play<(), Known> for StoresProgress {
 pub struct LoadsProgress;
 
 impl Play<(), Known> for LoadsProgress {
-    ghost use Rattle.c5_board.specs.Tells.{loads_progress};
+    ghost use Rattle.c5_board.specs.StepFacts.{loads_progress};
 
     ghost then = { loads_progress };
 }
@@ -110,7 +110,7 @@ impl Play<(), Known> for LoadsProgress {
 pub struct StoresVisible;
 
 impl Play<(), Known> for StoresVisible {
-    ghost use Rattle.c5_board.specs.Tells.{stores_visible};
+    ghost use Rattle.c5_board.specs.StepFacts.{stores_visible};
 
     ghost then = { stores_visible };
 }
@@ -119,7 +119,7 @@ impl Play<(), Known> for StoresVisible {
 pub struct LoadsVisible;
 
 impl Play<(), Known> for LoadsVisible {
-    ghost use Rattle.c5_board.specs.Tells.{loads_visible};
+    ghost use Rattle.c5_board.specs.StepFacts.{loads_visible};
 
     ghost then = { loads_visible };
 }
@@ -128,7 +128,7 @@ impl Play<(), Known> for LoadsVisible {
 pub struct StoresRecord;
 
 impl Play<(), Known> for StoresRecord {
-    ghost use Rattle.c5_board.specs.Tells.{stores_record};
+    ghost use Rattle.c5_board.specs.StepFacts.{stores_record};
 
     ghost then = { stores_record };
 }
@@ -137,7 +137,7 @@ impl Play<(), Known> for StoresRecord {
 pub struct LoadsRecord;
 
 impl Play<(), Known> for LoadsRecord {
-    ghost use Rattle.c5_board.specs.Tells.{loads_record};
+    ghost use Rattle.c5_board.specs.StepFacts.{loads_record};
 
     ghost then = { loads_record };
 }
@@ -146,7 +146,7 @@ impl Play<(), Known> for LoadsRecord {
 pub struct StoresScheduled;
 
 impl Play<(), Known> for StoresScheduled {
-    ghost use Rattle.c5_board.specs.Tells.{stores_scheduled};
+    ghost use Rattle.c5_board.specs.StepFacts.{stores_scheduled};
 
     ghost then = { stores_scheduled };
 }
@@ -155,7 +155,7 @@ impl Play<(), Known> for StoresScheduled {
 pub struct LoadsScheduled;
 
 impl Play<(), Known> for LoadsScheduled {
-    ghost use Rattle.c5_board.specs.Tells.{loads_scheduled};
+    ghost use Rattle.c5_board.specs.StepFacts.{loads_scheduled};
 
     ghost then = { loads_scheduled };
 }
@@ -164,7 +164,7 @@ impl Play<(), Known> for LoadsScheduled {
 pub struct StoresBucket;
 
 impl Play<(), Known> for StoresBucket {
-    ghost use Rattle.c5_board.specs.Tells.{stores_bucket};
+    ghost use Rattle.c5_board.specs.StepFacts.{stores_bucket};
 
     ghost then = { stores_bucket };
 }
@@ -173,7 +173,7 @@ impl Play<(), Known> for StoresBucket {
 pub struct LoadsBucket;
 
 impl Play<(), Known> for LoadsBucket {
-    ghost use Rattle.c5_board.specs.Tells.{loads_bucket};
+    ghost use Rattle.c5_board.specs.StepFacts.{loads_bucket};
 
     ghost then = { loads_bucket };
 }

@@ -51,7 +51,7 @@ behind p mid looks w seen link laws same is write head less covers =
       };
     }
 
--- the same where the board has another name
+-- the same if the board has another name
 pub behind_on : (p mid : Pass) (b : Board) (looks : List Look) (w seen : ℕ) (link : Record)
     → p.board ≡ b → PredecessorsAreLast (names p.board) → mid ≡ record p { looks = looks }
     → link ≡ record_of (names b) w → IsWrite (names p.board) w

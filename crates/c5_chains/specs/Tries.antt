@@ -15,7 +15,7 @@ abbrev pub head_found : List RowName → ℕ → Install → ℕ
 head_found names w Installed = predecessor_of names w
 head_found names w (PutOff seen) = seen
 
--- the pass after w was tried, where its row's head was found to be this: w is installed if that is
+-- the pass after w was tried, when its row's head was found to be this: w is installed if that is
 -- its predecessor
 abbrev pub after_try : Pass → ℕ → ℕ → Pass
 after_try p w head = record p {

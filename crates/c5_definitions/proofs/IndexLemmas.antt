@@ -45,7 +45,7 @@ module _ (buckets : ℕ) where
   unfolding bucket_on_path
   path-suc start k = refl
 
-  -- one step at the front
+  -- one step at the beginning
   pub path-shift : (start k : ℕ) → bucket_on_path buckets start (suc k)
       ≡ bucket_on_path buckets (next_bucket buckets start) k
   path-shift start zero = path-suc start zero ∙

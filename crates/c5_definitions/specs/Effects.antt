@@ -53,7 +53,7 @@ abbrev pub need_effect : Option ℤ → Rel → ℤ → Effect
 need_effect None rel n = declines
 need_effect (Some cell) rel n = if compares rel cell n then keeps else declines
 
--- declines where there is no number, or the sum isn't an i64
+-- declines if there is no number, or the sum isn't an i64
 abbrev pub add_effect : RowName → ℕ → Option (List Cell) → Option ℤ → ℤ → Effect
 add_effect name col None cell n = declines
 add_effect name col (Some row) None n = declines
@@ -61,7 +61,7 @@ add_effect name col (Some row) (Some cell) n =
     if fits_i64 (cell +ℤ n) then sets name (Some (slice_set row col (Int (cell +ℤ n))))
     else declines
 
--- what a statement does where the row that it needs is this one
+-- what a statement does if the row that it needs is this one
 abbrev pub effect_of : Statement → Option (List Cell) → Effect
 effect_of (Put name row) found = sets name (Some row)
 effect_of (Del name) found = sets name None

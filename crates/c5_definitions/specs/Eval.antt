@@ -40,7 +40,7 @@ abbrev pub set_row : RowName → Option (List Cell) → BodySoFar → BodySoFar
 set_row name row p =
     record { state = after_change name (change_to row) p.state; noted = insert p.noted name tt }
 
--- one statement after the other; none where one of them declines
+-- one statement after the other; none if one of them declines
 abbrev pub after_statements : List Statement → BodySoFar → Option BodySoFar
 after_statements [] p = Some p
 after_statements (statement ∷ statements) p =
@@ -50,7 +50,7 @@ after_statements (statement ∷ statements) p =
       | sets name row ↦ after_statements statements (set_row name row p)
     ]
 
--- no writes where a statement declined; else for each noted name, ascending, the row that the state
+-- no writes if a statement declined; else for each noted name, ascending, the row that the state
 -- then has
 abbrev pub ending_of : Option BodySoFar → Ending
 ending_of None = record { declined = true; writes = [] }

@@ -75,12 +75,12 @@ new_table_name tables bytes = or_cause kinds.Header
     (checked_bytes 1 max_name_bytes is_name_byte bytes)
     >>= λ name. if is_some (table_number name tables) then Err kinds.Header else Ok name
 
--- the type that a byte stands for
+-- the type that a byte encodes
 unfoldable pub type_of_byte : ℕ → Result CellType LogKind
 type_of_byte byte = if byte == 1 then Ok types.Int
     else (if byte == 2 then Ok types.Text else Err kinds.Header)
 
--- the types that bytes stand for
+-- the types that bytes encode
 unfoldable pub types_of_bytes : List ℕ → Result (List CellType) LogKind
 types_of_bytes [] = Ok []
 types_of_bytes (byte ∷ bytes) = do

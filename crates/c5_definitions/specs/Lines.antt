@@ -46,8 +46,8 @@ abbrev pub with_word : Word → Result (List Word) ScriptKind → Result (List W
 with_word word (Ok words) = Ok (word ∷ words)
 with_word word (Err kind) = Err kind
 
--- the words that begin or end in these bytes, of which the first is at this place: blanks part
--- them, a quote opens and closes a quoted text, which a blank or the end follows, and stands
+-- the words that begin or end in these bytes, of which the first is at this place: blanks separate
+-- them; a quote opens and closes a quoted text, which a blank or the end follows, and occurs
 -- nowhere else
 unfoldable pub words_at : LinePart → List ℕ → Result (List Word) ScriptKind
 words_at between [] = Ok []

@@ -36,7 +36,7 @@ script_of bytes = script_from 1 script_start (lines_of bytes)
 
 -- ---- a script that a log follows
 
--- the same where the line may end the script
+-- the same when the line may end the script
 abbrev pub after_front_numbered : ℕ → ScriptSoFar → List ℕ → Result FrontLine ScriptFault
 after_front_numbered number s line = on_line number (words_of line >>= after_front_line s)
 

@@ -1,7 +1,7 @@
 -- Steps that may fail, with the cause of the first that does.
 use Rattle.std.specs.Prelude.{◌≡◌, Result, Ok, Err}
 
--- one step, and then the next where it did not fail
+-- one step, and then the next if it did not fail
 infixl 10 ◌>>=◌
 abbrev pub ◌>>=◌ : {A B E : Type 0} → Result A E → (A → Result B E) → Result B E
 (Ok x) >>= f = f x

@@ -120,13 +120,13 @@ abbrev pub generated_replies : ℕ → List ℕ → List Reply
 generated_replies count places =
     replies_at no_rows (generated_txns count) (in_reply_order (generated_script count).reads) places
 
--- what is counted where the reads are answered at these places
+-- what is counted if the reads are answered at these places
 abbrev pub summary_at : ℕ → List ℕ → Summary
 summary_at count places =
     summary_of (generated_script count).tables (generated_txns count)
     (rows_of (generated_state count count)) (generated_replies count places)
 
--- what is printed, where all reads are answered after the last transaction; any other lawful
+-- what is printed, with all reads answered after the last transaction; any other lawful
 -- places give the same
 unfoldable pub generated_summary : ℕ → List ℕ
 generated_summary count =

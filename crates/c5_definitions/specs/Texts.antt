@@ -11,7 +11,7 @@ use Rattle.c5_rows.specs.declared.writes.RowName.{RowName}
 use Rattle.c5_rows.specs.State.{State, rows_of}
 use Rattle.c5_definitions.specs.FitsState.{IsRowIn}
 
--- a number with `-` where it is negative; or a text between two quotes
+-- a number with `-` if it is negative; or a text between two quotes
 abbrev pub cell_text : Cell → List ℕ
 cell_text (Int n) = signed_decimal n
 cell_text (Txt bytes) = 34 ∷ bytes ++ 34 ∷ []

@@ -54,5 +54,5 @@ pub record AreScheduled : Type 0 where
   -- first closing round puts write 3 off. Session 3's read is left, and is taken at the last place
   pub closing : turn_run one_key 2 (read_a 3 ∷ read_a 1 ∷ [])
       (w 3 ∷ w 1 ∷ s 2 ∷ s 1 ∷ v ∷ s 1 ∷ []) ≡ run (0 ∷ 3 ∷ []) 1
-  -- no words: a round is made, also where there are no writes to do
+  -- no words: a round is made, even if there are no writes to do
   pub no_words : turn_run (deleting 1 [] ∷ []) 1 (read_a 2 ∷ []) [] ≡ run (1 ∷ []) 0

@@ -44,7 +44,7 @@ pub enum Statement {
         col: u8,
         n: i64,
     },
-    /// Sets the row `to` to what the row `from` is, absent where that is.
+    /// Sets the row `to` to what the row `from` is, absent if that is.
     Copy {
         from: RowName,
         to: RowName,

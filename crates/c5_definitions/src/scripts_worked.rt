@@ -15,7 +15,7 @@ ghost use Rattle.c5_definitions.specs.WorkedScripts.{all_parts, bad_number_text,
 ghost use Rattle.c5_definitions.specs.WorkedScripts.{open_text, tab_text, quote_text, front_text};
 ghost use Rattle.c5_definitions.specs.WorkedScripts.{forms_text, forms_parts};
 
-/// Lines that are written one after the other are the lines of the bytes, also where the last has
+/// Lines that are written one after the other are the lines of the bytes, also if the last has
 /// no line end.
 pub fn lines_read_back()
     ensures ended { (lines : List (List ℕ)) → AllByRecursion IsLine lines

@@ -135,7 +135,7 @@ pub record IsClone (input text : List ℕ) : Type 0 where
   pub printed : IsCloneOf script text
 
 -- the input is a script, and the text is that of its schedule with so many workers: the order 0, 1,
--- 2 and so on, the replies at the places where the schedule takes the reads, all rows after the
+-- 2 and so on, the replies at the places at which the schedule takes the reads, all rows after the
 -- run, and how many writes the schedule puts off
 pub record IsTurns (workers : ℕ) (input text : List ℕ) : Type 0 where
   pub script : ScriptParts

@@ -21,7 +21,7 @@ ghost use Rattle.c5_driver.specs.SameTables.{are_same_tables};
 ghost use Rattle.c5_driver.specs.Uses.{source_use};
 
 use crate::command::input_limit;
-use crate::decoding::{fed, log_in};
+use crate::decoding::{decoder_of, log_in};
 use crate::reading::read_bytes;
 use crate::refusal::Refusal;
 use crate::replaying::{push_replayed, replay_log};
@@ -50,7 +50,7 @@ fn log_over(alloc: Global, schema: &Schema, bytes: &[u8]) -> Result<LogBuffer, R
     ensures refused { IfErr result
         (λ refusal. IsRefusedBy (log_refusal_over schema.now bytes.now) refusal) }
 {
-    let decoder = fed(alloc, bytes)?;
+    let decoder = decoder_of(alloc, bytes)?;
     let log = log_in(decoder)?;
     if have_same_tables(schema, &log) {
         Ok(log)

@@ -101,7 +101,7 @@ fn feed_all<S: Source>(
     }
 }
 
-/// A decoder that was fed all that the source had left, up to `limit` bytes.
+/// A decoder that was given all that the source had left, up to `limit` bytes.
 pub fn fed_whole<S: Source>(alloc: Global, source: &mut S, limit: usize) -> Result<Decoder, Refusal>
     requires { limit ≤ max_log_bytes }
     ensures { ReadsInput limit none_refused (λ input decoder. decoder ≡ input)
@@ -117,7 +117,7 @@ pub fn fed_whole<S: Source>(alloc: Global, source: &mut S, limit: usize) -> Resu
 }
 
 /// A decoder that was fed these bytes.
-pub fn fed(alloc: Global, bytes: &[u8]) -> Result<Decoder, Refusal>
+pub fn decoder_of(alloc: Global, bytes: &[u8]) -> Result<Decoder, Refusal>
     requires { length bytes.now ≤ max_log_bytes }
     ensures ok { IfOk result (λ decoder. decoder ≡ bytes.now) }
     ensures err { IfErr result (λ refusal. refusal ≡ Refusal.NoMemory) }

@@ -12,7 +12,7 @@ ghost use Rattle.c5_definitions.specs.TurnTexts.{txns_in_number_order};
 ghost use Rattle.c5_primary.specs.Serial.{IsLogWithin};
 ghost use Rattle.c5_driver.specs.LogLimits.{excess_of_log};
 
-use crate::decoding::fed;
+use crate::decoding::decoder_of;
 use c5_frames::{LogBuffer, encode, one_log};
 use c5_io::OpenGate;
 use c5_primary::{run, run_serial, serial_run_law};
@@ -88,7 +88,7 @@ pub fn decoded_run(alloc: Global, script: &Script, txns: &[Txn]) -> Result<LogBu
     ensures txns { IfOk result (λ log. log.txns ≡ txns.now) }
 {
     let bytes = bytes_of(alloc, script, txns)?;
-    let decoder = match fed(alloc, &bytes) {
+    let decoder = match decoder_of(alloc, &bytes) {
         Ok(decoder) => decoder,
         Err(_) => return Err(NoMemory),
     };

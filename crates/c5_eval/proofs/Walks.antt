@@ -49,7 +49,8 @@ goes_on statement statements own after reads more step declined writes
                 FollowsFrom statements (insert own name set) more declined writes
           ]) [
             | declines ↦ λ is. absurd (apart (sym is ∙ goes))
-            | keeps ↦ λ is. subst (λ (o : Own). FollowsFrom statements o more declined writes) is.1 rest
+            | keeps ↦ λ is. subst
+                (λ (o : Own). FollowsFrom statements o more declined writes) is.1 rest
             | sets name set ↦ λ is. subst
                 (λ (o : Own). FollowsFrom statements o more declined writes) is.1 rest
           ] acts,

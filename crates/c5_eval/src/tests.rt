@@ -87,7 +87,7 @@ fn rows_with(alloc: Global, entries: &[Entry]) -> Result<Rows, Fail> {
     Ok(rows)
 }
 
-// A body on these rows ends with these writes; `None` where it declines.
+// A body on these rows ends with these writes; `None` if it declines.
 fn ends(
     rt: &impl Abort,
     alloc: Global,

@@ -106,7 +106,7 @@ ready-more bytes piece all old new h small same is room = record {
       omega (arith, len, length-append bytes piece, small);
 }
 
--- what reading all bytes comes to, where less than an item stands behind
+-- what reading all bytes comes to, when less than an item follows
 pub reads-part : (bytes : List ℕ) (s : DecodedState) (t : Tracks bytes s)
     → length bytes < s.at + size_of s.next
     → after_bytes at_start bytes

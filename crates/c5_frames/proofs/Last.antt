@@ -44,7 +44,7 @@ last-write bytes tables f txns writes i place h some at is =
         → closed ≡ all → i ≡ all + (since - 1)
     behind n closed since i all some e at c = omega (arith, some, e, at, c)
 
--- where no write stands since the last mark, each name is above
+-- if there is no write since the last mark, each name is above
 pub above-none : (name : RowName) (writes : List Write) → length writes ≡ 0
     → true ≡ is_above name (last_of writes)
 above-none name [] e = refl

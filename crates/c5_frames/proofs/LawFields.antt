@@ -1,4 +1,4 @@
--- What a reader takes from the front of bytes, and numbers and checked bytes that are read.
+-- What a reader takes from the beginning of bytes, and numbers and checked bytes that are read.
 use Rattle.std.proofs.Common.{◌≡◌, ◌∙◌, ℕ, zero, suc, ◌+◌, ◌^◌, ◌<◌, ◌≤◌, Bool, true, false, ◌&&◌}
 use Rattle.std.proofs.Common.{cond, leb, List, [], ◌∷◌, ◌++◌, length, get_or, take, drop, Result}
 use Rattle.std.proofs.Common.{Ok, Err, refl, sym, ap, subst, append_assoc, arith, inl, inr}
@@ -44,7 +44,7 @@ IsBytes-append (byte ∷ front) rest h k zero = h 0
 IsBytes-append (byte ∷ front) rest h k (suc i) =
     IsBytes-append front rest (IsBytes-rest byte front h) k i
 
--- what a reader took from the front
+-- what a reader took from the beginning
 pub record Takes (bytes text rest : List ℕ) : Type 0 where
   pub parts : bytes ≡ text ++ rest
   pub rest_fits : IsBytes rest

@@ -1,4 +1,4 @@
--- Each item of a header that passes its tests adds its bytes to the text that stands before it.
+-- Each item of a header that passes its tests adds its bytes to the text before it.
 use Rattle.std.proofs.Common.{◌≡◌, ◌∙◌, ℕ, ◌+◌, ◌-◌, ◌≤◌, Bool, true, false, cond, eqb, List, []}
 use Rattle.std.proofs.Common.{◌∷◌, ◌++◌, length, map, Ok, refl, sym, ap, subst, append_assoc, arith}
 use Rattle.std.specs.Str.{bytes_eq}

@@ -297,7 +297,8 @@ frame_holds tables (first ∷ rest) frame fits e =
           subst (Holds tables (first ∷ rest)) (ok_is (write a.0) frame a.2)
           (ap (λ (b : ℕ). b ∷ rest) (eqb-true _ _ w.0) ∙ t.0, t.1)
       | inr n ↦ elim
-          (chosen (eqb first 67) numbers (cond (eqb first 69) last (Err kinds.Kind)) (Ok frame) n.1) [
+          (chosen (eqb first 67) numbers (cond (eqb first 69) last (Err kinds.Kind)) (Ok frame)
+          n.1) [
             | inl m ↦
                 let a = bind_ok (mark_at rest) (λ numbers. Ok (mark numbers)) frame m.1 in
                 subst (Holds tables (first ∷ rest)) (ok_is (mark a.0) frame a.2)

@@ -1,4 +1,4 @@
--- What stands before each item of a log, and what holds of what has been read.
+-- What comes before each item of a log, and what holds of what has been read.
 use Rattle.std.proofs.Common.{◌≡◌, ◌∙◌, ℕ, ◌+◌, ◌≤◌, Bool, true, false, ◌||◌, cond, eqb, ltb, List}
 use Rattle.std.proofs.Common.{[], ◌∷◌, ◌++◌, length, map, Option, Some, None, Ok, Err, refl, sym}
 use Rattle.std.proofs.Common.{ap, subst, arith}

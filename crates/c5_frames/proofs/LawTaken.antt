@@ -1,4 +1,4 @@
--- Each frame that passes its tests adds its bytes to the text that stands before it.
+-- Each frame that passes its tests adds its bytes to the text before it.
 use Rattle.std.proofs.Common.{◌≡◌, ◌∙◌, ℕ, ◌-◌, ◌^◌, ◌<◌, ◌≤◌, true, ◌&&◌, ◌||◌, cond, eqb, ltb}
 use Rattle.std.proofs.Common.{List, [], ◌∷◌, ◌++◌, length, get_or, drop, Ok, Err, refl, sym, ap}
 use Rattle.std.proofs.Common.{subst, append_assoc, arith}

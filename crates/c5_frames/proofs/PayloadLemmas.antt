@@ -1,4 +1,4 @@
--- Where reading ends, cell by cell; and what a payload holds where its check passes.
+-- Where reading ends, cell by cell; and what a payload holds if its check passes.
 use Rattle.std.proofs.Common.{◌≡◌, ◌∙◌, ℕ, suc, ◌+◌, ◌<◌, ◌≤◌, Bool, false, cond, eqb, List, []}
 use Rattle.std.proofs.Common.{◌∷◌, length, get_or, drop, Result, Ok, Err, refl, sym, ap, arith}
 use Rattle.std.proofs.Common.{drop-cons}

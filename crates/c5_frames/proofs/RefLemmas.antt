@@ -310,7 +310,7 @@ put-cells columns rest change e =
     ok_is x.0 (cells_held columns rest) (sym x.1 ∙ holds) in
     (holds, sym (ok_is (Put x.0) change x.2) ∙ ap (λ (row : List Cell). Put row) same)
 
--- behind the op byte of a put stand the cells of its row
+-- the op byte of a put is followed by the cells of its row
 pub put-row : (columns : List CellType) (all bytes : List ℕ) (change : Change)
     → change_at columns all ≡ Ok change → Some bytes ≡ put_cells_of all → HoldRow columns bytes
     × (Some (cells_held columns bytes) ≡ row_of_change change)
@@ -358,7 +358,7 @@ table-found number tables table e =
       | Some t ↦ λ h. ap (λ (x : TableDef). Some x) (ok_is t table h)
     ] e
 
--- the length of a key, the key, and what stands behind it
+-- the length of a key, the key, and what follows it
 record IsKeyed (n : ℕ) (bytes : List ℕ) (x : List ℕ × List ℕ) : Type 0 where
   fits : n ≤ length bytes
   is_key : IsKey x.0

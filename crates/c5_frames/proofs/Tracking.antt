@@ -41,7 +41,7 @@ pub item-length : (bytes : List ℕ) (at size : ℕ) → at + size ≤ length by
 item-length bytes at size within =
     length-take-le size (drop at bytes) (omega (arith, length-drop at bytes))
 
--- a whole item, and then what stands behind it
+-- a whole item, and then what follows it
 item-then : (r : LogSoFar) (at : ℕ) (bytes : List ℕ) → at + size_of r.next ≤ length bytes
     → 0 < size_of r.next
     → after_bytes (before r at) (drop at bytes)

@@ -1,4 +1,4 @@
--- How far a log has been read: what its decoder knows, and what that stands for.
+-- How far a log has been read: what its decoder knows, and what that means.
 use Rattle.std.specs.Prelude.{◌≡◌, ◌<◌, ◌≤◌, ◌+◌, ◌-◌, ◌*◌, ℕ, List, [], length, drop, Option, Some}
 use Rattle.std.specs.Prelude.{None, Result, Ok, Err}
 use Rattle.c5_rows.specs.Sizes.{max_log_bytes, min_payload_bytes, max_payload_bytes, max_tables}

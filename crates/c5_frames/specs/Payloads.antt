@@ -44,7 +44,7 @@ shown_at tables payload = frame_at tables payload >>= λ frame. Ok (shown frame)
 abbrev pub numbers_of : Mark → frames.Mark
 numbers_of m = record { script = m.script; stamp = m.stamp; count = m.count }
 
--- the name that a borrowed one stands for
+-- the name that a borrowed one shows
 abbrev pub name_of : NameRef → RowName
 name_of n = record { table = n.table; key = n.key.now }
 

@@ -6,7 +6,7 @@ use Rattle.c5_definitions.specs.Items.{nothing_more}
 use Rattle.c5_frames.specs.declared.stage.Stage.{Stage}
 use Rattle.c5_frames.specs.declared.stage.Stage.TheVariants as stages
 
--- the item that a stage stands for
+-- the item that a stage names
 abbrev pub item_of : Stage → Item
 item_of stages.Magic = the_magic
 item_of stages.TableCount = table_count

@@ -38,7 +38,7 @@ fn is_above(name: NameRef, other: NameRef) -> bool
         .is_gt()
 }
 
-// Whether the name is above that of the last write, where there is one since the last commit mark.
+// Whether the name is above that of the last write, if there is one since the last commit mark.
 fn is_above_last(bytes: &[u8], index: &Index, name: NameRef) -> bool
     requires index { (tables : List TableDef) × (txns : List Txn) × (writes : List Write)
         × IsIndex bytes.now tables (found_in index.now) txns writes }

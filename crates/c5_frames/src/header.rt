@@ -81,7 +81,7 @@ fn type_in(byte: u8) -> Result<CellType, LogKind>
     }
 }
 
-// The columns of the types that these bytes stand for.
+// The columns of the types that these bytes encode.
 fn columns_in(item: &[u8]) -> Result<Columns, LogKind>
     requires some { 1 ≤ length item.now }
     requires few { length item.now ≤ max_columns }

@@ -147,7 +147,7 @@ opening-ends : (body : List Statement) (p : BodySoFar) → after_statements body
 unfolding eval
 opening-ends body p is = ap ending_of is
 
--- what the opening leaves where there are no rows
+-- what the opening leaves if there are no rows
 pub record OpensAll : Type 0 where
   pub leaves : Leaves opening_body no_rows opened
   pub count : length (eval opening_body no_rows).writes ≡ account_count

@@ -21,7 +21,7 @@ get-change : (name : RowName) (row : Option (List Cell)) (state : State) (q : Ro
 get-change name (Some row) state q = get-insert row_name_cmp_total state name row q
 get-change name None state q = get-remove row_name_cmp_total state name q
 
--- where the names are one, so are the rows
+-- if the names are one, so are the rows
 own-row : (s : State) (q name : RowName) (b : Bool) (other : Option (List Cell))
     → is_same q name ≡ b
     → cond b (get s name) other ≡ cond b (get s q) other

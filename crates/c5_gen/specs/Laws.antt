@@ -69,7 +69,7 @@ abbrev pub ArePlaces : ℕ → List ℕ → Type 0
 ArePlaces count places =
     AreLawfulPlaces (in_reply_order (generated_script count).reads) count places
 
--- what holds of the summary where the reads are answered at these places: it is printed as that
+-- what holds of the summary if the reads are answered at these places: it is printed as that
 -- of the count alone
 pub record SummaryLaw (count : ℕ) (places : List ℕ) : Type 0 where
   pub counts : IsSummary count (summary_at count places)

@@ -18,7 +18,7 @@ LosesAtMost old new n = (bytes : List ℕ) × (length bytes ≤ n) × Consumes o
 abbrev pub AppendsPart : Option (List ℕ) → Option (List ℕ) → List ℕ → Type 0
 AppendsPart old new bytes = (n : ℕ) × (n < length bytes) × Appends old new (take n bytes)
 
--- the count never falls, `Failed` comes only where it rose, and each other answer leaves it as it
+-- the count never falls, `Failed` comes only if it rose, and each other answer leaves it as it
 -- was
 pub record HasReadCause {T : Type 0} (before now : ℕ) (result : Result T InFault) : Type 0 where
   pub later : before ≤ now

@@ -189,7 +189,7 @@ impl Model for MemorySink {
 impl MemorySink {
     /// Takes memory for `room` bytes at once, and none later. A write takes at most `step` bytes.
     /// Writes and flushes are numbered together from 1, and those in `fails` fail. So does a write
-    /// of a piece that isn't empty where no room is left, and no other call. From call `u64::MAX`
+    /// of a piece that isn't empty when no room is left, and no other call. From call `u64::MAX`
     /// on each has that number.
     pub fn new(alloc: Global, room: usize, step: usize, fails: Vec<u64>) -> Result<Self, NoMemory>
         requires { 1 ≤ step }

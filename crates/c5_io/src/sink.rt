@@ -16,7 +16,7 @@ pub trait Sink {
     /// The last call was a flush, and was Ok.
     ghost flushed: { Self → Bool };
 
-    /// Takes bytes from the front of the piece, and says how many.
+    /// Takes bytes from the beginning of the piece, and says how many.
     fn write(&mut self, piece: &[u8]) -> Result<usize, Failed>
         ensures bound { WritesAtMost result piece.now }
         ensures some { 0 < length piece.now → IfOk result (λ n. 0 < n) }

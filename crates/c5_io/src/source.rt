@@ -13,7 +13,7 @@ pub trait Source {
     /// How often a call has failed. The count never falls, and stops at `u64::MAX`.
     ghost faults: { Self → ℕ };
 
-    /// Reads into the front of the buffer, and says how many bytes it wrote there. For a buffer
+    /// Reads into the beginning of the buffer, and says how many bytes it wrote there. For a buffer
     /// that isn't empty, 0 is the end.
     fn read(&mut self, into: &mut [u8]) -> Result<usize, Failed>
         ensures bound { ReadsAtMost result into.new }

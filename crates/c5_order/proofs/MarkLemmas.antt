@@ -226,7 +226,7 @@ installed-more stamp w ws q old m n e f =
     by true false f = f
     by false b f = f
 
--- taken out again, nothing is left where nothing was before
+-- taken out again, nothing is left if nothing was there before
 pub undone : (stamp : ℕ) (ws : List Write) (q : VersionKey) (old m : Option ℕ)
     → (q.wrote ≡ stamp → old ≡ None) → m ≡ mark_after_install stamp ws q old
     → removed stamp ws q m ≡ old

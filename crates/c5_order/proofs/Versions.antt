@@ -233,7 +233,7 @@ lookup-push v (x ∷ cs) c e = by (lookup-push v cs c) (eqb x.0 v) e
     by rest true e = absurd cc
     by rest false e = rest e
 
--- where no commit has the stamp
+-- if no commit has the stamp
 pub lookup-none : (v : ℕ) (cs : List Commit) → All (λ c. c.0 ≡ v → ⊥) cs
     → lookup (λ stamp. eqb stamp v) cs ≡ None
 lookup-none v cs others = by (lookup (λ stamp. eqb stamp v) cs) refl

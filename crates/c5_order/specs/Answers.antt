@@ -19,7 +19,7 @@ begin_entry (Some stamp) opened last = Err (faults.Committed stamp)
 begin_entry None (Some stamp) last = Err (faults.Began stamp)
 begin_entry None None last = if last == 2 ^ 64 - 1 then Err (faults.Stamps last) else Ok (last + 1)
 
--- what `begin` answers where memory is available
+-- what `begin` answers if memory is available
 abbrev pub begin_answer : ℕ → List Entry → ℕ → Result ℕ BeginFault
 begin_answer last history script =
     begin_entry (committed_stamp script (committed history)) (open_stamp script (open_txns history))

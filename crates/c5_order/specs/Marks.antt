@@ -20,7 +20,7 @@ version_key_cmp a b = ordering_then (row_name_cmp a.name b.name) (nat_cmp a.wrot
 abbrev pub version_key : RowName → ℕ → VersionKey
 version_key name wrote = record { name = name; wrote = wrote }
 
--- the greatest reader of a version, where it has an entry
+-- the greatest reader of a version, if it has an entry
 abbrev pub noted_mark : BTreeMap VersionKey ℕ → VersionKey → Option ℕ
 noted_mark versions key = get version_key_cmp versions key
 

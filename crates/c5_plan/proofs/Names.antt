@@ -14,7 +14,7 @@ module _ {N K : Type 0} (named : N → K) (same : K → K → Bool) where
   any-named name [] = refl
   any-named name (k ∷ ks) = ap (λ (b : Bool). same name (named k) || b) (any-named name ks)
 
-  -- a name is among the keys where something is found
+  -- a name is among the keys if something is found
   pub member-found : {X : Type 0} (name : K) (es : List (N × X))
       → is_member same (map named (keys_of es)) name
       ≡ is_some (lookup (λ (n : N). same name (named n)) es)

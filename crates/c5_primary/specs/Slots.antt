@@ -9,7 +9,7 @@ use Rattle.c5_primary.specs.declared.state.SlotId.{SlotId}
 use Rattle.c5_primary.specs.declared.state.Opened.{Opened}
 use Rattle.c5_primary.specs.declared.state.SessionState.{SessionState}
 
--- what tells a slot from others
+-- what distinguishes a slot from others
 abbrev pub slot_id : TurnSlot Order OrderBase Entry → SlotId
 slot_id slot =
     let id = slot.table.shared.table_id in

@@ -3,7 +3,7 @@
 use c5_definitions::{Entry, OrderBase};
 use std::collections::LinkedList;
 
-/// What tells one slot from another. No value of it is made.
+/// What distinguishes one slot from another. No value of it is made.
 pub struct SlotId {
     pub words: u64,
     pub slots: u64,

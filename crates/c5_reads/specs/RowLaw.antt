@@ -12,7 +12,7 @@ use Rattle.c5_chains.specs.declared.at.At.{At}
 use Rattle.c5_chains.specs.declared.at.At.TheVariants.{Put, Gone, Before}
 use Rattle.c5_chains.specs.Chains.{at_number}
 
--- the row that is there, where it was this one before the log
+-- the row that is there, if it was this one before the log
 abbrev pub row_or_before : At → Option (List Cell) → Option (List Cell)
 row_or_before (Put row) before = Some row
 row_or_before Gone before = None

@@ -50,7 +50,8 @@ next-ended board start reads f first (suc n) rest (e ∷ ends) some h =
     let less : n ≡ suc n - 1 = omega arith in (
       h.0,
       subst
-          (λ (m : ℕ). HaveEnded board start reads (map f (range_with_len (first + 1) m) ++ rest) ends)
+          (λ (m : ℕ). HaveEnded board start reads
+          (map f (range_with_len (first + 1) m) ++ rest) ends)
           less h.1,
     )
 

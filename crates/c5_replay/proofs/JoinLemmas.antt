@@ -86,7 +86,11 @@ waiting-more : (workers : ℕ) (ns : List RowName) (s t i next : ℕ) → s ≤ 
 waiting-more workers ns s t i next le [] h = tt
 waiting-more workers ns s t i next le (w ∷ list) h =
     let x = h.0.scheduled_so in (
-      record { write = h.0.write; owned = h.0.owned; below = h.0.below; scheduled_so = omega arith },
+      record {
+        write = h.0.write;
+        owned = h.0.owned;
+        below = h.0.below;
+        scheduled_so = omega arith },
       waiting-more workers ns s t i next le list h.1,
     )
 

@@ -1,7 +1,7 @@
 -- The last place is visible if and only if each write is installed.
 use Rattle.std.proofs.Common.{◌≡◌, ◌∙◌, ◌+◌, ◌-◌, ◌≤◌, ◌<◌, ◌&&◌, ◌==◌, ℕ, zero, suc, Bool, true}
-use Rattle.std.proofs.Common.{false, cond, not, List, [], ◌∷◌, length, get_or, Some, slice_get, nat_lt}
-use Rattle.std.proofs.Common.{ap, sym, subst, refl, arith, true≢false, lt_of_not-le}
+use Rattle.std.proofs.Common.{false, cond, not, List, [], ◌∷◌, length, get_or, Some, slice_get}
+use Rattle.std.proofs.Common.{nat_lt, ap, sym, subst, refl, arith, true≢false, lt_of_not-le}
 use Rattle.std.specs.List.{list_all}
 use Rattle.std.proofs.lemmas.Bool.{lt-ltb, le-ltb, ltb-true, ltb-false, eqb-true, eq-eqb}
 use mathlib.Core.Logic.{dite}

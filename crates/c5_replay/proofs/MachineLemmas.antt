@@ -1,8 +1,8 @@
 -- The machine of a schedule, step by step.
 use Prim.Native.Nat.{zero, suc}
 use Rattle.std.proofs.Common.{◌≡◌, ◌∙◌, ◌+◌, ◌-◌, ◌≤◌, ◌<◌, ◌++◌, ℕ, Bool, true, false, cond, List}
-use Rattle.std.proofs.Common.{[], ◌∷◌, length, map, set, drop, Option, Some, None, slice_get, replicate}
-use Rattle.std.proofs.Common.{ap, sym, subst, refl, arith, rules}
+use Rattle.std.proofs.Common.{[], ◌∷◌, length, map, set, drop, Option, Some, None, slice_get}
+use Rattle.std.proofs.Common.{replicate, ap, sym, subst, refl, arith, rules}
 use Rattle.std.specs.List.{flat_map, range_with_len, zip}
 use Rattle.std.proofs.lemmas.List.{length-map}
 use Rattle.std.proofs.lemmas.List.Concat.{flat_map-cons}

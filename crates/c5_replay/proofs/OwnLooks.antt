@@ -12,5 +12,6 @@ pub own-looks : (p q : Pass) (place : ℕ) → place ≡ p.place → OnlyLooks (
 own-looks p q place same only =
     only-then p (began p place) q
     (only-more p (began p place) (max p.scheduled (end_of p.board.log.txns place))
-    (LoadVisible place ∷ []) (tt, tt) (omega arith) (λ t. record (began p place) { place = same t }))
+    (LoadVisible place ∷ []) (tt, tt) (omega arith)
+    (λ t. record (began p place) { place = same t }))
     only

@@ -42,8 +42,8 @@ replayed board start reads u p q replies h all last first second replied =
       snapshot = ap (λ (x : Pass). x.snapshot) only.pass ∙ h.turning.snapshot;
       scheduler = ap (λ (x : Pass). x.scheduler) only.pass ∙ h.turning.scheduler;
       installed = λ w write. ap (λ (x : Pass). is_among w x.installed) only.pass
-          ∙ done-each (write_count board) u.pass.installed (names board) (λ t. write_count board) all
-          w write;
+          ∙ done-each (write_count board) u.pass.installed (names board)
+          (λ t. write_count board) all w write;
       place = ap (λ (x : Pass). x.place) only.pass ∙ last;
       loads = λ s w. loaded-later p q reads replies second.more s (replied.loads s w)
           (ap (λ (x : Pass). x.board) second.pass) (ap (λ (x : Pass). x.looks) second.pass);

@@ -1,6 +1,7 @@
 -- What is true of the state of a schedule after one more turn.
-use Rattle.std.proofs.Common.{◌≡◌, ◌∙◌, ◌+◌, ◌-◌, ◌≤◌, ◌<◌, ◌==◌, ◌++◌, ℕ, suc, Bool, List, [], ◌∷◌, length, map}
-use Rattle.std.proofs.Common.{max, set, get_or, Some, slice_get, ap, sym, subst, refl, arith}
+use Rattle.std.proofs.Common.{◌≡◌, ◌∙◌, ◌+◌, ◌-◌, ◌≤◌, ◌<◌, ◌==◌, ◌++◌, ℕ, suc, Bool, List, []}
+use Rattle.std.proofs.Common.{◌∷◌, length, map, max, set, get_or, Some, slice_get, ap, sym, subst}
+use Rattle.std.proofs.Common.{refl, arith}
 use Rattle.std.proofs.lemmas.List.{length-map}
 use Rattle.std.proofs.lemmas.Option.{slice_get-get_or}
 use Rattle.c5_rows.specs.State.{State}

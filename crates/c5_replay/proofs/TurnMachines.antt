@@ -171,7 +171,7 @@ may-below ns done x law write below = by (eqb (predecessor_of ns x) 0) refl
         (law.on_row x write (eqb-false (predecessor_of ns x) 0 e)).0
         (law.below x write)
 
--- where writes below x are done, none of them waits
+-- if writes below x are done, none of them waits
 none-waits : (workers : ℕ) (ns : List RowName) (roles done : List ℕ) (scheduled i x : ℕ)
     (list : List ℕ) → HasTried workers ns roles done scheduled i x list → AreDoneBelow ns done x
     → list ≡ []

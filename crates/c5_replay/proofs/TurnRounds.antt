@@ -187,7 +187,7 @@ rounds-made workers txns m (suc most) x owners law h below some high =
     (round-made workers txns m owners law h).machine
     (round-below workers txns m x owners law h below) more (omega arith))
   where
-    -- where this wasn't the last round there is another
+    -- if this wasn't the last round there is another
     another : is_all_done (length (names_in txns)) (after_round txns m).done ≡ false
         → (b : Bool) → ltb (length (names_in txns)) (x + 1) ≡ b → 1 ≤ most
     another not_all true e = absurd (true≢false (sym

@@ -57,7 +57,7 @@ fn play<G: Gate>(alloc: Global, shared: &Shared<'_>, gate: &G, part: Part) -> Re
     }
 }
 
-/// Runs all parts to their ends, each in a thread of its own where one can be made. The ends are in
+/// Runs all parts to their ends, each in a thread of its own if one can be made. The ends are in
 /// the order of the parts.
 pub fn play_all<G: Gate, R: Threads + Sync>(
     rt: &R,

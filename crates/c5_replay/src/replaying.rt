@@ -39,7 +39,7 @@ pub struct Replayed {
 /// Replays a log from these rows with so many workers, 1 to 16, and answers read blocks meanwhile,
 /// each by the rows at a place that is visible then.
 ///
-/// The scheduler, the snapshotter, the workers and the sessions run in threads of their own where
+/// The scheduler, the snapshotter, the workers and the sessions run in threads of their own if
 /// they can be made. Each passes the gate before each of its turns, which count from 1; a turn of a
 /// session is one block. A worker or the snapshotter ends early if 1,000 turns in a row have
 /// brought nothing; what is left then is done once all have ended.

@@ -57,7 +57,7 @@ decided x y Less o h n = refl
 decided x y Equal o h n = absurd (n h)
 decided x y Greater o h n = refl
 
--- ---- two lists whose words of eight bytes are x and y at `at`, and whose bytes before are the same
+-- ---- two lists with the words x and y of eight bytes at `at`, and with the same bytes before
 module _ (at x y : ℕ) (xs ys : List ℕ) (p : at + 8 ≤ length xs) (q : at + 8 ≤ length ys)
     (g : (k : ℕ) → Fits w8 (get_or xs k 0)) (h : (k : ℕ) → Fits w8 (get_or ys k 0))
     (is_x : x ≡ big_endian 0 (take 8 (drop at xs))) (is_y : y ≡ big_endian 0 (take 8 (drop at ys)))
@@ -124,7 +124,7 @@ zeros_last (suc n) m (suc x ∷ xs) e l =
     ap (λ r. ordering_then (ordering_then r (slice_cmp nat_cmp xs (replicate n 0))) (nat_cmp m 0))
     (sym (nat_cmp_is (suc x) 0 Greater (omega arith)))
 
--- the arrays decide, and where they are the same the lengths do
+-- the arrays decide, and if they are the same the lengths do
 pub by_arrays : (size n m : ℕ) (xs ys : List ℕ) → length xs ≡ size → length ys ≡ size → n ≤ size
     → m ≤ size → drop n xs ≡ replicate (size - n) 0 → drop m ys ≡ replicate (size - m) 0
     → ordering_then (slice_cmp nat_cmp xs ys) (nat_cmp n m)

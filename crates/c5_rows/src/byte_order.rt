@@ -26,7 +26,7 @@ fn word(bytes: &[u8], at: usize) -> u64
     ])
 }
 
-// The order of the arrays, and that of the lengths where the arrays are the same. Words of eight
+// The order of the arrays, and that of the lengths if the arrays are the same. Words of eight
 // bytes are ordered as their bytes are, so the first word that differs decides.
 #[inline(always)]
 fn order(a: &[u8], b: &[u8], a_len: u8, b_len: u8) -> Ordering
@@ -57,7 +57,7 @@ impl<const N: usize> Ord for Padded<u8, N> {
 
     ghost matches_eq = { Prim.search (comparing, rules) };
 
-    // The places past the length are 0, so the lengths count only where the arrays are the same.
+    // The places past the length are 0, so the lengths count only if the arrays are the same.
     #[inline(always)]
     fn cmp(&self, other: &Self) -> Ordering {
         order(&self.items, &other.items, self.len, other.len)

@@ -1,4 +1,4 @@
--- How many names stand in a list that was sorted and whose repeated names were dropped.
+-- How many names are in a list that was sorted and whose repeated names were dropped.
 use Rattle.std.proofs.Common.{◌≡◌, ◌∙◌, ◌≤◌, ◌<◌, ◌||◌, ℕ, zero, suc, Bool, true, false, List, []}
 use Rattle.std.proofs.Common.{◌∷◌, ◌++◌, length, get_or, cond, subst, sym, ap, refl, arith}
 use Rattle.std.specs.Bool.{Decides}

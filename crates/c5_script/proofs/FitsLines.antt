@@ -325,7 +325,7 @@ sum-fits tables (t ∷ col ∷ key ∷ keys) line e =
     (has_column tables table.0 column.0 (table_in-below tables t table.0 table.1)
     (column-int (columns_of tables table.0) col column.0 column.1))
 
--- ---- what a function returned, where it returned what reading gives
+-- ---- what a function returned, if it returned what reading gives
 
 if_ok : {A : Type 0} (r read : Result A ScriptKind) (P : A → Type 0) → r ≡ read
     → ((x : A) → read ≡ Ok x → P x) → IfOk r P

@@ -92,7 +92,7 @@ front-ends number s line lines bytes behind whole e rest =
     (whole ∙ front-line number s line lines (Ok log_follows) e)
     ∙ ap (λ (rest : List ℕ). Ok (parts_of s, rest)) rest
 
--- ---- the line that ends a script stands outside blocks, where a table stands
+-- ---- the line that ends a script is outside blocks, where a table may be
 
 never_log : (number : ℕ) (taken : Result ScriptSoFar ScriptKind)
     → on_line number (taken >>= λ next. Ok (goes_on next)) ≡ Ok log_follows → ⊥

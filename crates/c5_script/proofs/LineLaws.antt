@@ -10,7 +10,7 @@ use Rattle.c5_definitions.specs.Lines.{lines_of, behind_lines}
 abbrev pub is_end : ℕ → Bool
 is_end byte = eqb byte 10
 
--- where a line end stands, the first line goes up to it
+-- where a line end is, the first line goes up to it
 lines-before_end : (bytes : List ℕ) → position_or_len is_end bytes < length bytes
     → lines_of bytes ≡ take (position_or_len is_end bytes) bytes
     ∷ lines_of (drop (position_or_len is_end bytes + 1) bytes)
@@ -24,7 +24,7 @@ unfolding behind_lines
 behind-end [] h = absurd (omega arith)
 behind-end (byte ∷ bytes) h = grind (arith, common_steps, behind-end bytes)
 
--- where none stands, all is the first line
+-- if there is none, all is the first line
 lines-without_end : (byte : ℕ) (bytes : List ℕ)
     → length (byte ∷ bytes) ≤ position_or_len is_end (byte ∷ bytes)
     → lines_of (byte ∷ bytes) ≡ (byte ∷ bytes) ∷ []

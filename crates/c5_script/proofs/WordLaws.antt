@@ -74,7 +74,7 @@ bare-end : (word : List ℕ) → words_at (in_bare word) []
 unfolding words_at
 bare-end word = refl
 
--- where none of them stands, all is the word
+-- if none of them occurs, all is the word
 pub bare-None : (bytes : List ℕ) → 1 ≤ length bytes
     → None ≡ position ends_bare (take (length bytes - 1) (drop 1 bytes))
     → words_at (in_bare (take 1 bytes)) (drop 1 bytes)

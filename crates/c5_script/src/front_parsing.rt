@@ -1,4 +1,4 @@
-//! Reading the script in front of a log.
+//! Reading the script before a log.
 
 ghost use Rattle.std.specs.Prelude.{◌≡◌, ◌≤◌, Ok, length};
 ghost use Rattle.c5_definitions.specs.Script.{after_front_numbered, front_of};

@@ -77,7 +77,7 @@ fn is_same(a: &RowName, b: &RowName) -> bool
     a == b
 }
 
-// Adds the name where it isn't held, and maybe where it is: `places` has places of some names that
+// Adds the name if it isn't held, and maybe if it is: `places` has places of some names that
 // are held. A row that is written often is then only a few times among the names.
 fn push_name(names: &mut Vec<RowName>, places: &mut [usize], name: RowName) -> Result<(), NoMemory>
     requires { length places.old ≡ slots }

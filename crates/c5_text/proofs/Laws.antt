@@ -35,7 +35,7 @@ use Rattle.c5_text.specs.Reading.{printed_line_at}
 use Rattle.c5_text.proofs.Steps.{some_is, kept, both, bind_some, ne-eqb}
 use Rattle.c5_text.proofs.Numbers.{int_of-sound, int_of-again}
 
--- ---- where a byte stands first
+-- ---- the first place of a byte
 
 abbrev other : ℕ → ℕ → Bool
 other stop byte = not (eqb byte stop)
@@ -152,7 +152,7 @@ checked-again least most allowed bytes are =
 
 -- ---- cells
 
--- the text of the cell, and what stands behind it
+-- the text of the cell, and what follows it
 pub record IsCell (column : CellType) (bytes : List ℕ) (x : Cell × List ℕ) : Type 0 where
   pub parts : bytes ≡ cell_text x.0 ++ x.1
   pub lawful : IsLawfulCell x.0

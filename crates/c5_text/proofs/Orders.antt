@@ -98,7 +98,7 @@ no-next rest (m ∷ more) some never small left =
     ends [] = refl
     ends (k ∷ numbers) = refl
 
--- where no number comes, the bytes spell no numbers
+-- if no number comes, the bytes spell no numbers
 pub read-none : (bytes numbers rest all : List ℕ) → HasRead bytes numbers rest → 1 ≤ length rest
     → ((n : ℕ) (after : List ℕ) → IsAfter [] rest n after → ⊥) → AreU32 all
     → bytes ≡ numbers_text all → ⊥

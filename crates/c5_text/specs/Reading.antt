@@ -16,7 +16,7 @@ use Rattle.c5_rows.specs.Bytes.{checked_bytes, is_key_byte, is_text_byte}
 use Rattle.c5_rows.specs.Tables.{table_number}
 use Rattle.c5_rows.specs.Sizes.{max_key_bytes, max_text_bytes}
 
--- one step, and then the next where it gave something
+-- one step, and then the next if it gave something
 infixl 10 ◌>>=◌
 abbrev pub ◌>>=◌ : {A B : Type 0} → Option A → (A → Option B) → Option B
 (Some x) >>= f = f x

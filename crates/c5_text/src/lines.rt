@@ -6,7 +6,7 @@ ghost use Rattle.c5_definitions.specs.Texts.{table_name_text, name_text, line_te
 use crate::cells::push_cells;
 use c5_rows::{NoMemory, Row, RowName, TableDef};
 
-// Appends the name of the table of this number, where there is one.
+// Appends the name of the table of this number, if there is one.
 fn push_name(out: &mut Vec<u8>, tables: &[TableDef], number: u8) -> Result<(), NoMemory>
     ensures { OnOk result (out.new.items ≡ out.old.items
         ++ table_name_text (slice_get tables.now number)) }

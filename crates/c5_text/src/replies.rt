@@ -55,7 +55,7 @@ fn push_answer(out: &mut Vec<u8>, tables: &[TableDef], answer: &AnswerLine) -> R
     Ok(())
 }
 
-/// The text of a reply where there are `total` transactions: its head and a line for each of its
+/// The text of a reply when there are `total` transactions: its head and a line for each of its
 /// answers.
 ///
 /// The head's lag is the number of transactions after the reply's place.

@@ -27,7 +27,7 @@ pub record IsVersions (versions : List Version) : Type 0 where
   pub begins : BeginsAtZero versions
   pub ascending : AscendsByStamp versions
 
--- the version with the greatest `wrote` below the stamp, where they ascend
+-- the version with the greatest `wrote` below the stamp, if they ascend
 abbrev pub version_before : ℕ → List Version → Option Version
 version_before stamp [] = None
 version_before stamp (version ∷ versions) =

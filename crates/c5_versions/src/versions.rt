@@ -43,7 +43,7 @@ impl Model for Versions {
 ghost use Rattle.c5_versions.specs.Versions.{AscendsByStamp, IsVersions, version_before};
 ghost use Rattle.c5_versions.specs.Versions.{mark_version, put_version};
 
-// How many of the versions are below the stamp: that many at the front.
+// How many of the versions are below the stamp: the first so many.
 fn count_below(versions: &[Version], stamp: u64) -> usize
     requires { AscendsByStamp versions.now }
     ensures bound { result ≤ length versions.now }
@@ -74,7 +74,7 @@ fn find(versions: &[Version], stamp: u64) -> &Version
     requires proper { IsVersions versions.now }
     requires positive { 1 ≤ stamp }
     ensures found { version_before stamp versions.now ≡ Some result.now }
-    ensures stands { Contains versions.now result.now }
+    ensures contained { Contains versions.now result.now }
     ensures below { result.now.wrote < stamp }
     ensures greatest { All (λ v. v.wrote < stamp → v.wrote ≤ result.now.wrote) versions.now }
 {
@@ -128,7 +128,7 @@ impl Versions {
     pub fn before(&self, stamp: u64) -> &Version
         requires { 1 ≤ stamp }
         ensures found { version_before stamp self.now.versions ≡ Some result.now }
-        ensures stands { Contains self.now.versions result.now }
+        ensures contained { Contains self.now.versions result.now }
         ensures below { result.now.wrote < stamp }
         ensures greatest { All (λ v. v.wrote < stamp
             → v.wrote ≤ result.now.wrote) self.now.versions }

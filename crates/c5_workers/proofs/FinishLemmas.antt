@@ -187,7 +187,7 @@ workers-stored p q workers i x are is = record {
   each = λ k u at. stored-each u p q i x (are.each k u at) is;
 }
 
--- the least number of a worker is above the writes where they all are installed
+-- the least number of a worker is above the writes if they all are installed
 least-above : (u : Worker) (p : Pass) → NumbersAreOwned p.board.workers → IsSound p → FitsWorker u p
     → AreAllInstalled p → IsAboveWrites p u.i (least_of u.put_off.items u.next)
 least-above u p owners sound fits all =

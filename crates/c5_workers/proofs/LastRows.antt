@@ -14,7 +14,7 @@ use Rattle.c5_workers.specs.Scheduling.{IsLastOfEach, IsReadyToRecord}
 one_more : (a b : ℕ) → suc a ≤ b → (b ≢ 0 → b ≤ suc a) → suc a ≡ b
 one_more a b h down = let l = down (λ q. absurd (omega arith)) in omega arith
 
--- two numbers are one if each, where it isn't 0, is at most the other
+-- two numbers are one if each is 0 or at most the other
 one_number : (a b : ℕ) → (a ≢ 0 → a ≤ b) → (b ≢ 0 → b ≤ a) → a ≡ b
 one_number zero zero up down = refl
 one_number zero (suc b) up down = let h = down (λ q. absurd (omega arith)) in absurd (omega arith)

@@ -117,7 +117,7 @@ alone_push f xs zs x n m is e here long up =
 
 -- ---- beginnings
 
--- of two beginnings of one list, what follows the longer one stands in what follows the shorter one
+-- of two beginnings of one list, what follows the longer one is in what follows the shorter one
 pub rest_within : {E : Type 0} (P : E → Type 0) (xs ys rs ss : List E) → xs ++ rs ≡ ys ++ ss
     → length ys ≤ length xs → All P ss → All P rs
 rest_within P [] [] rs ss e le all = subst (All P) (sym e) all
@@ -209,7 +209,7 @@ module _ {E : Type 0} (caller : E → ℕ) where
             (grind (arith, nat_tests)) s.2) t.2,
       )
 
-  -- ---- what a caller is told
+  -- ---- what a caller learns
 
   pub seen_begins : (log : List E) (numbers : List ℕ) (seen : List E)
       → IsSeenOf caller log numbers seen → IsPrefix seen log

@@ -4,7 +4,7 @@ use Rattle.std.specs.Prelude.{List, ◌++◌, length, All}
 use Rattle.std.specs.List.{filter}
 use Rattle.c5_rows.specs.Numbers.{is_among}
 
--- the number that stands for a length: u64::MAX where it is longer
+-- the number that says a length: u64::MAX if it is longer
 abbrev pub count_of : ℕ → ℕ
 count_of n = min n 18446744073709551615
 

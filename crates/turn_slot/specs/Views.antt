@@ -146,7 +146,7 @@ module _ {V B E : Type 0} (base : V → B) (history : V → List E) where
   abbrev pub LiesIn : List (maybe.Option (Option V)) → B → List E → Type 0
   LiesIn homes b log = (x : V) × (homes ≡ some (Some x) ∷ []) × (base x ≡ b) × (history x ≡ log)
 
-  -- where the value is: it lies in the slot, but where it is out with the turn
+  -- the value is in the slot, unless it is out with the turn
   abbrev pub IsPlaced : TurnStage → List (maybe.Option (Option V)) → B → List E → Type 0
   IsPlaced Without homes b log = LiesIn homes b log
   IsPlaced Won homes b log = LiesIn homes b log
@@ -173,7 +173,7 @@ pub record IsSlotKept {V B E : Type 0} (base : V → B) (history : V → List E)
       × (get_elem? s.views (owner n) ≡ some v) × (is_among n v.numbers ≡ true)
   pub callers : All (λ e. IsPassNumber origin.passes (caller e)) log
 
--- ---- what each step tells
+-- ---- what each step shows
 
 abbrev Sat : Type 0 → Type 0 → Type 0 → Type 0
 Sat V B E = Me (Option V) (Known B E)

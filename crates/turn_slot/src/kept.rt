@@ -8,7 +8,7 @@ ghost use Rattle.turn_slot.specs.Entries.{count_of};
 pub trait Kept {
     /// What the value was made with.
     type Base;
-    /// What stands in the history.
+    /// An entry of the history.
     type Entry;
 
     ghost base: { Self → Self.Base };
@@ -18,7 +18,7 @@ pub trait Kept {
     // The number of the caller that an entry is of.
     ghost caller: { Self.Entry → ℕ };
 
-    /// The length of the history, or `u64::MAX` where it is longer.
+    /// The length of the history, or `u64::MAX` if it is longer.
     fn entries(&self) -> u64
         ensures { result ≡ count_of (length (history self.now)) };
 }

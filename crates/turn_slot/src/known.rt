@@ -28,7 +28,7 @@ pub struct Part<E> {
 
 /// What a pass knows. No value of it is made.
 pub struct Known<B, E> {
-    /// `None` where the pass was joined to another.
+    /// `None` if the pass was joined to another.
     pub origin: Option<Origin<B>>,
     /// The numbers that it unites.
     pub numbers: LinkedList<u64>,

@@ -8,7 +8,7 @@ use crate::kept::Kept;
 /// What holds in every state that the rule allows. The log is the history of the value when it was
 /// last in the slot.
 ///
-/// - The count word is the length of the log, or `u64::MAX` where that is longer.
+/// - The count word is the length of the log, or `u64::MAX` if that is longer.
 /// - Where the holder word is 0, the value is in the slot, with the log for its history.
 /// - Where it is n, exactly one pass has the turn, and its number is n. The value is in the slot,
 ///   but while it is out with the turn.

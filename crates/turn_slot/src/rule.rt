@@ -1,4 +1,4 @@
-//! The rule of the slot, and what each step on it tells. Word 0 is the holder word: 0, or the
+//! The rule of the slot, and what each step on it shows. Word 0 is the holder word: 0, or the
 //! number of the pass that has the turn. Word 1 is the count word: the length of the history.
 
 use crate::kept::Kept;
@@ -10,7 +10,7 @@ pub const HOLDER: usize = 0;
 
 pub const COUNT: usize = 1;
 
-/// What a slot is told when it is made.
+/// What a slot is given when it is made.
 #[derive(Drop)]
 pub struct Opening<V> {
     pub value: Snapshot<V>,

@@ -16,6 +16,7 @@ returns-in_ok-log-in-Ok-clause-read c =
     record {
       rest = c.in-Ok.front.rest.now;
       front = c.in-Ok.ensures;
-      over = subst (λ (ts : List TableDef). IsLogOver ts c.in-Ok.front.rest.now c.in_ok-log-in-Ok.log)
+      over = subst
+          (λ (ts : List TableDef). IsLogOver ts c.in-Ok.front.rest.now c.in_ok-log-in-Ok.log)
           c.schema.ensures.value c.in_ok-log-in-Ok.ensures.log;
     }

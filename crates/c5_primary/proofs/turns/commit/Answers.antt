@@ -176,7 +176,8 @@ returns-in-Ok-clause-commit c =
       c.in-Ok.ensures.decision,
       rw (c.still_open-parts.ensures)
           (same-state _ _ _ _ _ s.numbers _
-          (after_decision b c.args.writes.now c.in-Ok.decision h) _ (s.looks ++ 0 ∷ []) (c.give.ensures.numbers ∙ same)
+          (after_decision b c.args.writes.now c.in-Ok.decision h) _ (s.looks ++ 0 ∷ [])
+          (c.give.ensures.numbers ∙ same)
           (c.give.ensures.seen ∙ ap (λ z. z.history) after)
           (c.give.ensures.looks ∙ c.in-Took.ensures.took ∙ ap (λ l. l ++ 0 ∷ []) (sym looked))),
     )

@@ -49,7 +49,8 @@ loop-before-preserved c =
       machine = ap (λ (m : ℕ). after_rounds board.log.txns (machine_of c.take_round.new.turning) m)
           less
           ∙ rounds-more board.log.txns (machine_of c.loop-before.turning)
-          (machine_of c.take_round.new.turning) ((n + 1) - k) some c.take_round.ensures.machine not_all
+          (machine_of c.take_round.new.turning) ((n + 1) - k) some
+          c.take_round.ensures.machine not_all
           ∙ c.loop-before.invariant.machine;
       open_so = λ h. not_all;
     }

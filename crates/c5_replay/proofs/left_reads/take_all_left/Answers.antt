@@ -1,4 +1,5 @@
-use Rattle.std.proofs.Common.{◌≡◌, ◌∙◌, ◌+◌, ◌-◌, ◌≤◌, ◌++◌, [], ◌∷◌, ℕ, List, length, ap, sym, subst}
+use Rattle.std.proofs.Common.{◌≡◌, ◌∙◌, ◌+◌, ◌-◌, ◌≤◌, ◌++◌, [], ◌∷◌, ℕ, List, length, ap, sym}
+use Rattle.std.proofs.Common.{subst}
 use Rattle.std.proofs.Common.{arith}
 use Rattle.std.proofs.lemmas.List.{append-nil, nil_from_length}
 use Rattle.std.specs.Vec.Iter.{into_iter_items}
@@ -11,7 +12,8 @@ use Rattle.c5_replay.specs.Joins.{HaveReplied}
 use Rattle.c5_replay.specs.TurnStates.{AreSessions, left_places}
 use Rattle.c5_replay.specs.declared.session_turns.SessionTurns.{SessionTurns}
 use Rattle.c5_replay.proofs.Sessions.{replied-none}
-use Rattle.c5_replay.proofs.TakenLemmas.{first-session, left-step, looked-later, replied-in, sessions-in}
+use Rattle.c5_replay.proofs.TakenLemmas.{first-session, left-step, looked-later, replied-in}
+use Rattle.c5_replay.proofs.TakenLemmas.{sessions-in}
 use Rattle.c5_replay.proofs.left_reads.take_all_left.Goals as goal
 
 pub loop-session-init : goal.loop-session-init

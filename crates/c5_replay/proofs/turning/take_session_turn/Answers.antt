@@ -33,7 +33,9 @@ returns-clause-fits c =
     (with_items_is t.sessions c.read_at.new.sessions
     (c.read_at.auto.sessions ∙ c.as_mut_slice.ensures.len)) (c.in_ok-read_at.ensures {u = tt}) in
     read-fits c.args.shared.now.board.now c.args.shared.now.start.now c.args.shared.now.reads.now t
-    (record t { pass = c.read_at.new.pass; sessions = with_items t.sessions c.read_at.new.sessions })
+    (record t {
+      pass = c.read_at.new.pass;
+      sessions = with_items t.sessions c.read_at.new.sessions })
     (c.args.session - 1) turn.old turn.new c.requires.fits turn.only turn.at turn.after_so
     turn.session turn.taken refl refl
 
@@ -49,5 +51,7 @@ returns-clause-machine c =
     (c.read_at.auto.sessions ∙ c.as_mut_slice.ensures.len)) (c.in_ok-read_at.ensures {u = tt}) in
     read-machine c.args.shared.now.board.now c.args.shared.now.start.now c.args.shared.now.reads.now
     t
-    (record t { pass = c.read_at.new.pass; sessions = with_items t.sessions c.read_at.new.sessions })
+    (record t {
+      pass = c.read_at.new.pass;
+      sessions = with_items t.sessions c.read_at.new.sessions })
     (c.args.session - 1) c.args.session c.requires.fits number turn refl refl

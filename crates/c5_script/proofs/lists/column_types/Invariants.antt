@@ -10,5 +10,6 @@ invariant-loop-column l =
     record {
       eight : length l.types ≡ 8;
       reading : with_front (take l.column l.types)
-          (each_in type_in (held_words (drop l.column l.words))) ≡ each_in type_in (held_words l.words);
+          (each_in type_in (held_words (drop l.column l.words)))
+          ≡ each_in type_in (held_words l.words);
     }

@@ -7,7 +7,7 @@ use Rattle.c5_rows.specs.Numbers.{is_among}
 use Rattle.c5_board.specs.Words.{head_word}
 use Rattle.c5_board.specs.Boards.{Board, Pass, names, record_of}
 use Rattle.c5_board.specs.Passes.{CoversRow}
-use Rattle.c5_board.specs.Tells.{exchanges_head}
+use Rattle.c5_board.specs.StepFacts.{exchanges_head}
 use Rattle.c5_board.proofs.ExchangeStep.{exchanges_head_step}
 use Rattle.c5_board.proofs.CallLemmas.{met, same_board, exchange_requires}
 use Rattle.c5_board.proofs.PassLemmas.{still_pass}

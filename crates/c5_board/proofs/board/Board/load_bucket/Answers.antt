@@ -4,7 +4,7 @@ use mathlib.Core.Logic.{dite}
 use native.Mathlib.Decide.{ℕ_discrete}
 use Rattle.c5_board.specs.Words.{bucket_word}
 use Rattle.c5_board.specs.Boards.{Board, names}
-use Rattle.c5_board.specs.Tells.{loads_bucket}
+use Rattle.c5_board.specs.StepFacts.{loads_bucket}
 use Rattle.c5_board.proofs.LoadSteps.{loads_bucket_step}
 use Rattle.c5_board.proofs.CallLemmas.{met, same_board, load_requires}
 use Rattle.c5_board.proofs.PassLemmas.{still_pass}

@@ -3,7 +3,7 @@ use Rattle.c5_definitions.specs.WriteNumbers.{IsFirstWrite}
 use Rattle.c5_board.specs.Words.{head_word}
 use Rattle.c5_board.specs.Boards.{Board, Pass, names}
 use Rattle.c5_board.specs.Passes.{CoversRow}
-use Rattle.c5_board.specs.Tells.{loads_head}
+use Rattle.c5_board.specs.StepFacts.{loads_head}
 use Rattle.c5_board.proofs.LoadSteps.{loads_head_step}
 use Rattle.c5_board.proofs.CallLemmas.{met, same_board, load_requires}
 use Rattle.c5_board.proofs.board.Board.load_head.Goals as goal

@@ -1,7 +1,7 @@
 use Rattle.std.proofs.Common.{arith, ap, subst, ◌∙◌}
 use Rattle.c5_board.specs.Words.{progress_word}
 use Rattle.c5_board.specs.Boards.{Board, IsWorker}
-use Rattle.c5_board.specs.Tells.{loads_progress}
+use Rattle.c5_board.specs.StepFacts.{loads_progress}
 use Rattle.c5_board.proofs.LoadSteps.{loads_progress_step}
 use Rattle.c5_board.proofs.CallLemmas.{met, same_board, load_requires}
 use Rattle.c5_board.proofs.PassLemmas.{still_pass}

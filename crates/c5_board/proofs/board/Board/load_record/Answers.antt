@@ -3,7 +3,7 @@ use Rattle.c5_definitions.specs.WriteNumbers.{names_in, IsWrite}
 use Rattle.c5_board.specs.declared.known.Look.TheVariants.{LoadRecord}
 use Rattle.c5_board.specs.Words.{record_word}
 use Rattle.c5_board.specs.Boards.{Board, Pass, names, record_of}
-use Rattle.c5_board.specs.Tells.{loads_record}
+use Rattle.c5_board.specs.StepFacts.{loads_record}
 use Rattle.c5_board.proofs.LoadSteps.{loads_record_step}
 use Rattle.c5_board.proofs.CallLemmas.{met, same_board, load_requires}
 use Rattle.c5_board.proofs.PassLemmas.{still_pass, looked_pass}

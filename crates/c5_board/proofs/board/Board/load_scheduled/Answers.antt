@@ -1,7 +1,7 @@
 use Rattle.std.proofs.Common.{arith, ap, ◌∙◌}
 use Rattle.c5_board.specs.Words.{scheduled_word}
 use Rattle.c5_board.specs.Boards.{Board}
-use Rattle.c5_board.specs.Tells.{loads_scheduled}
+use Rattle.c5_board.specs.StepFacts.{loads_scheduled}
 use Rattle.c5_board.proofs.LoadSteps.{loads_scheduled_step}
 use Rattle.c5_board.proofs.CallLemmas.{met, same_board, load_requires}
 use Rattle.c5_board.proofs.board.Board.load_scheduled.Goals as goal

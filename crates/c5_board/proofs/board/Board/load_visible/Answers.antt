@@ -1,7 +1,7 @@
 use Rattle.std.proofs.Common.{arith, ap, refl, ◌∙◌}
 use Rattle.c5_board.specs.Words.{visible_word}
 use Rattle.c5_board.specs.Boards.{Board}
-use Rattle.c5_board.specs.Tells.{loads_visible}
+use Rattle.c5_board.specs.StepFacts.{loads_visible}
 use Rattle.c5_board.proofs.LoadSteps.{loads_visible_step}
 use Rattle.c5_board.proofs.CallLemmas.{met, same_board, load_requires}
 use Rattle.c5_board.proofs.PassLemmas.{still_pass}

@@ -11,7 +11,7 @@ use Rattle.c5_board.specs.Words.{writes_in, buckets_in}
 use Rattle.c5_board.specs.First.{first_words}
 use Rattle.c5_board.specs.Rule.{IsKept}
 use Rattle.c5_board.specs.Views.{first_view}
-use Rattle.c5_board.specs.Tells.{Seated}
+use Rattle.c5_board.specs.StepFacts.{Seated}
 use Rattle.c5_board.specs.Passes.{IsSound}
 use Rattle.c5_board.specs.Boards.{pass_of}
 use Rattle.c5_board.proofs.Facts.{facts}

@@ -3,7 +3,7 @@ use Rattle.c5_definitions.specs.WriteNumbers.{IsFirstWrite}
 use Rattle.c5_definitions.specs.RowIndex.{IsSlot}
 use Rattle.c5_board.specs.Words.{bucket_word}
 use Rattle.c5_board.specs.Boards.{Board, Pass, names}
-use Rattle.c5_board.specs.Tells.{stores_bucket}
+use Rattle.c5_board.specs.StepFacts.{stores_bucket}
 use Rattle.c5_board.proofs.StoreSteps.{stores_bucket_step}
 use Rattle.c5_board.proofs.CallLemmas.{met, same_board, store_requires}
 use Rattle.c5_board.proofs.board.Board.store_bucket.Goals as goal

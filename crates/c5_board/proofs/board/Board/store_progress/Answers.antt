@@ -3,7 +3,7 @@ use Rattle.c5_rows.specs.Numbers.{is_among}
 use Rattle.c5_board.specs.Words.{progress_word}
 use Rattle.c5_board.specs.Boards.{Board, Pass}
 use Rattle.c5_board.specs.Passes.{IsOutstanding}
-use Rattle.c5_board.specs.Tells.{stores_progress}
+use Rattle.c5_board.specs.StepFacts.{stores_progress}
 use Rattle.c5_board.proofs.StoreSteps.{stores_progress_step}
 use Rattle.c5_board.proofs.CallLemmas.{met, same_board, store_requires}
 use Rattle.c5_board.proofs.PassLemmas.{still_pass}

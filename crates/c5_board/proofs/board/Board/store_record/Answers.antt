@@ -3,7 +3,7 @@ use Rattle.c5_definitions.specs.WriteNumbers.{names_in, IsWrite}
 use Rattle.c5_board.specs.declared.known.Record.{Record}
 use Rattle.c5_board.specs.Words.{record_word, packed}
 use Rattle.c5_board.specs.Boards.{Board, Pass, names, record_of}
-use Rattle.c5_board.specs.Tells.{stores_record}
+use Rattle.c5_board.specs.StepFacts.{stores_record}
 use Rattle.c5_board.proofs.StoreSteps.{stores_record_step}
 use Rattle.c5_board.proofs.CallLemmas.{met, same_board, store_requires}
 use Rattle.c5_board.proofs.board.Board.store_record.Goals as goal

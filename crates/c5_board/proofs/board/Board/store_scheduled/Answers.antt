@@ -2,7 +2,7 @@ use Rattle.std.proofs.Common.{◌≡◌, ◌+◌, true, arith, ap, subst, sym, r
 use Rattle.c5_definitions.specs.WriteNumbers.{names_in, IsFirstWrite}
 use Rattle.c5_board.specs.Words.{scheduled_word}
 use Rattle.c5_board.specs.Boards.{Board, Pass, names}
-use Rattle.c5_board.specs.Tells.{stores_scheduled}
+use Rattle.c5_board.specs.StepFacts.{stores_scheduled}
 use Rattle.c5_board.proofs.StoreSteps.{stores_scheduled_step}
 use Rattle.c5_board.proofs.CallLemmas.{met, same_board, store_requires}
 use Rattle.c5_board.proofs.PassLemmas.{still_pass}

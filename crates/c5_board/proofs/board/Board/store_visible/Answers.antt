@@ -3,7 +3,7 @@ use Rattle.c5_definitions.specs.WriteNumbers.{end_of}
 use Rattle.c5_board.specs.Sets.{number_of}
 use Rattle.c5_board.specs.Words.{visible_word}
 use Rattle.c5_board.specs.Boards.{Board, Pass, IsWorker}
-use Rattle.c5_board.specs.Tells.{stores_visible}
+use Rattle.c5_board.specs.StepFacts.{stores_visible}
 use Rattle.c5_board.proofs.StoreSteps.{stores_visible_step}
 use Rattle.c5_board.proofs.CallLemmas.{met, same_board, store_requires}
 use Rattle.c5_board.proofs.PassLemmas.{still_pass}
