@@ -90,7 +90,8 @@ waiting-more workers ns s t i next le (w ∷ list) h =
         write = h.0.write;
         owned = h.0.owned;
         below = h.0.below;
-        scheduled_so = omega arith },
+        scheduled_so = omega arith;
+      },
       waiting-more workers ns s t i next le list h.1,
     )
 

@@ -151,10 +151,7 @@ impl PartialScript {
 
     /// Takes a line of these words, which may be the `log` line. `Fault` if and only if the line
     /// fails a test, with the kind of the first. What has been read after an `Err` isn't said.
-    #[tactic(auto, unfolding(
-        c5_definitions::specs::Statements::after_front_line,
-        c5_definitions::specs::Statements::log_line
-    ))]
+    #[tactic(auto, unfolding(c5_definitions::specs::Statements::after_front_line, c5_definitions::specs::Statements::log_line))]
     pub(crate) fn take_front_line(&mut self, words: &[Word]) -> Result<Taken, LineError>
         ensures step { StepsTo (front_line_of self.new) result
             (after_front_line self.old (held_words words.now)) }

@@ -20,7 +20,7 @@ returns-clause-run c =
     let p = c.take_all_left.new.pass in
     let fits = c.close.ensures.fits in
     let same : p.board ≡ board =
-        ap (λ (x : Pass). x.board) left.pass.pass ∙ fits.turning.of_board in
+    ap (λ (x : Pass). x.board) left.pass.pass ∙ fits.turning.of_board in
     let place = c.place-place.ensures.value ∙ ap (λ (x : Pass). x.place) left.pass.pass
     ∙ c.close.ensures.last in
     let machine = c.close.ensures.machine

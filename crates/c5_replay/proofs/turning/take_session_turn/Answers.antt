@@ -35,7 +35,8 @@ returns-clause-fits c =
     read-fits c.args.shared.now.board.now c.args.shared.now.start.now c.args.shared.now.reads.now t
     (record t {
       pass = c.read_at.new.pass;
-      sessions = with_items t.sessions c.read_at.new.sessions })
+      sessions = with_items t.sessions c.read_at.new.sessions;
+    })
     (c.args.session - 1) turn.old turn.new c.requires.fits turn.only turn.at turn.after_so
     turn.session turn.taken refl refl
 
@@ -53,5 +54,6 @@ returns-clause-machine c =
     t
     (record t {
       pass = c.read_at.new.pass;
-      sessions = with_items t.sessions c.read_at.new.sessions })
+      sessions = with_items t.sessions c.read_at.new.sessions;
+    })
     (c.args.session - 1) c.args.session c.requires.fits number turn refl refl
