@@ -41,7 +41,7 @@ there [] i v w e = absurd (some-ne-none v (sym e))
 there (x ∷ xs) zero v w e = refl
 there (x ∷ xs) (suc i) v w e = there xs i v w e
 
--- what stands in a longer list stood in the list, or is the new element at its end
+-- what is in a longer list was in the list, or is the new element at its end
 snoc : {A : Type 0} (l : List A) (a b : A) (j : ℕ) → get_elem? (l ++ a ∷ []) j ≡ some b
     → (get_elem? l j ≡ some b) ⊎ ((j ≡ length l) × (a ≡ b))
 snoc [] a b zero e = inr (refl, some-injective a b e)
@@ -150,7 +150,8 @@ module _ {V B E : Type 0} (base : V → B) (history : V → List E) (caller : E 
                   (there s.views id v w at),
               t.1,
             ))
-            (λ (t : (r.holder ≢ 0) × (who ≡ r.who) × (has_turn v.stage ≡ false)). let h = r.held t.0 in
+            (λ (t : (r.holder ≢ 0) × (who ≡ r.who) × (has_turn v.stage ≡ false)).
+            let h = r.held t.0 in
             let apart : r.who ≢ id =
             λ e. not_both (has_turn v.stage)
             (subst (λ (z : K). has_turn z.stage ≡ true)
@@ -176,7 +177,8 @@ module _ {V B E : Type 0} (base : V → B) (history : V → List E) (caller : E 
               subst (λ (l : List ℕ). is_among n l ≡ true)
                   (ap (λ (z : K). z.numbers)
                   (one_view s.views id h.0 v
-                  (subst (λ (k : ℕ). get_elem? s.views k ≡ some h.0) e h.1) at) ∙ sym same_numbers) h.2,
+                  (subst (λ (k : ℕ). get_elem? s.views k ≡ some h.0) e h.1) at)
+                  ∙ sym same_numbers) h.2,
             ))
             (λ apart. (h.0, set_else s.views id (r.owner n) w apart ∙ h.1, h.2));
         callers = callers;
@@ -219,7 +221,7 @@ module _ {V B E : Type 0} (base : V → B) (history : V → List E) (caller : E 
         )) u.parts f.parts;
   }
 
-  -- where the holder word is 0, no seat has the turn
+  -- if the holder word is 0, no seat has the turn
   idle_free : (s : St) (r : Rule s) (k : ℕ) (u : K) → r.holder ≡ 0 → get_elem? s.views k ≡ some u
       → has_turn u.stage ≡ false
   idle_free s r k u zero_word at =
@@ -227,7 +229,7 @@ module _ {V B E : Type 0} (base : V → B) (history : V → List E) (caller : E 
       (λ is_among. not_both (has_turn u.stage) is_among
       (ap has_turn (sym ((r.each k u at).turn is_among).1 ∙ r.free zero_word)))
 
-  -- where a seat has the turn, no other has it
+  -- if a seat has the turn, no other has it
   idle_other : (s : St) (r : Rule s) (id : ℕ) (v : K) (k : ℕ) (u : K)
       → get_elem? s.views id ≡ some v → has_turn v.stage ≡ true → k ≢ id
       → get_elem? s.views k ≡ some u → has_turn u.stage ≡ false
@@ -510,7 +512,7 @@ module _ {V B E : Type 0} (base : V → B) (history : V → List E) (caller : E 
       subst (λ (l : List (Option V)). Rule (opening (0 ∷ 0 ∷ []) l (first_view origin))) (sym is)
       (opens x same_base empty)
 
-  -- the owner of each number where those of one seat go to another
+  -- the owner of each number when those of one seat go to another
   abbrev passed_on : List ℕ → ℕ → (ℕ → ℕ) → ℕ → ℕ
   passed_on numbers seat owner n = cond (is_among n numbers) seat (owner n)
 
@@ -522,7 +524,7 @@ module _ {V B E : Type 0} (base : V → B) (history : V → List E) (caller : E 
       → passed_on numbers seat owner n ≡ owner n
   not_passed numbers seat owner n isnt = rw isnt
 
-  -- a seat fits under another owner of each number, where its own numbers stay with it
+  -- a seat fits under another owner of each number, if its own numbers stay with it
   reowned : (log : List E) (holder : ℕ) (stage : TurnStage) (who : ℕ) (owner owner' : ℕ → ℕ) (k : ℕ)
       (u : K) → ((n : ℕ) → is_among n u.numbers ≡ true → owner n ≡ k → owner' n ≡ k)
       → Fits caller origin log holder stage who owner k u
@@ -805,7 +807,7 @@ module _ {V B E : Type 0} (base : V → B) (history : V → List E) (caller : E 
         ),
       )
 
-  -- where one pass has all numbers and not the turn, the value is in the slot, and the pass has
+  -- if one pass has all numbers and not the turn, the value is in the slot, and the pass has
   -- seen its history
   pub closes : (s : St) (r : Rule s) (id : ℕ) (v : K) → get_elem? s.views id ≡ some v
       → v.stage ≡ Without → ((n : ℕ) → IsPassNumber origin.passes n → is_among n v.numbers ≡ true)
@@ -887,7 +889,7 @@ pub slot_of : {S B E : Type 0} (m : Me S (Known B E)) (v : Known B E) (a : ℕ �
 slot_of {S} {B} {E} m v a c e =
     ap (λ (z : Me S (Known B E)). z.1) e ∙ ap (λ (z : Me S (Known B E)). a ∷ rest z.1) (sym e)
 
--- the value that was taken out of the slot shows that the pass's own entries stand in its history,
+-- the value that was taken out of the slot shows that the pass's own entries are in its history,
 -- and no others of its numbers
 pub took_own : {V B E : Type 0} (history : V → List E) (caller : E → ℕ) (v : Known B E)
     (m l : Me (Option V) (Known B E)) (c : List (ℕ × Option V)) (x y : V) (found : Option V)
@@ -939,7 +941,8 @@ module _ {V B E : Type 0} (origin : Origin B) where
       × (is_among n (drop 1 me.0.numbers) ≡ false)
   left_first me n k is =
       subst (λ (z : Me (Option V) (Known B E)). (z.0.stage ≡ Without)
-      × (z.0.numbers ≡ n ∷ drop 1 z.0.numbers) × (is_among n (drop 1 z.0.numbers) ≡ false)) (sym is) (
+      × (z.0.numbers ≡ n ∷ drop 1 z.0.numbers) × (is_among n (drop 1 z.0.numbers) ≡ false))
+      (sym is) (
         refl,
         refl,
         not_true (is_among n (numbers_from (suc n) k))
