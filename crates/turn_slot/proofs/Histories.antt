@@ -97,7 +97,7 @@ range_push first (suc count) = ap (λ (l : List ℕ). first ∷ l)
     (range_push (suc first) count ∙ ap (λ (k : ℕ). numbers_from (suc first) count ++ k ∷ [])
     (omega arith))
 
--- where each number up to the length stands alone in its list, and the next one is added
+-- if each number up to the length is alone in its list, and the next one is added
 pub alone_push : {A : Type 0} (f : A → List ℕ) (xs zs : List A) (x : A) (n m : ℕ)
     → zs ≡ xs ++ x ∷ [] → map f xs ≡ map (λ n. n ∷ []) (numbers_from 1 (length xs)) → f x ≡ n ∷ []
     → length xs + 1 ≡ n

@@ -2,7 +2,8 @@ use Rattle.std.proofs.Common.{rules, ◌≡◌, ℕ, ◌+◌, length, ap, ◌∙
 use Rattle.std.proofs.lemmas.List.Elements.{All-push, All-same}
 use Rattle.turn_slot.specs.Passes.{origin_of, numbers, IsNew}
 use Rattle.turn_slot.proofs.Histories.{alone_push}
-use Rattle.turn_slot.proofs.Steps.{splits, left_first, left_after, one_alone, last_alone, new_one}
+use Rattle.turn_slot.proofs.PartSteps.{splits, left_first, left_after, one_alone, last_alone}
+use Rattle.turn_slot.proofs.PartSteps.{new_one}
 use Rattle.turn_slot.proofs.slot.TurnSlot.deal.Goals as goal
 
 pub split_seat-single-requires : goal.split_seat-single-requires

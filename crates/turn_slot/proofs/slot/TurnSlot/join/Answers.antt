@@ -1,5 +1,6 @@
 use Rattle.std.proofs.Common.{rules, ◌∙◌}
-use Rattle.turn_slot.proofs.Steps.{joins, settles, stage_of, joined_own}
+use Rattle.turn_slot.proofs.Steps.{stage_of}
+use Rattle.turn_slot.proofs.PartSteps.{joins, settles, joined_own}
 use Rattle.turn_slot.proofs.slot.TurnSlot.join.Goals as goal
 
 pub join_seat-requires : goal.join_seat-requires

@@ -1,5 +1,5 @@
 use Rattle.std.proofs.Common.{rules}
-use Rattle.turn_slot.proofs.Steps.{opens_with}
+use Rattle.turn_slot.proofs.PartSteps.{opens_with}
 use Rattle.turn_slot.proofs.slot.TurnSlot.new.Goals as goal
 
 pub new-requires : goal.new-requires
