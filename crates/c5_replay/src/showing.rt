@@ -4,10 +4,10 @@ ghost use Rattle.std.specs.Prelude.{◌≡◌, true};
 ghost use Rattle.c5_replay.specs.Parts.{IsPassWith};
 
 use crate::shared::MAX_STALLED;
-use crate::waiting::give_way;
 use c5_board::{Board, BoardPass};
 use c5_io::{Gate, Role};
 use c5_snapshot::advance;
+use std::thread;
 
 /// Advances the visible place until it is the last one, or until 1,000 turns in a row haven't
 /// advanced it. Passes the gate before each turn. After a turn that hasn't advanced it the part
@@ -36,6 +36,6 @@ pub fn show<G: Gate>(board: &Board<'_>, gate: &G, pass: &mut BoardPass)
         if stalled == MAX_STALLED {
             return;
         }
-        give_way();
+        thread::yield_now();
     }
 }

@@ -1,4 +1,4 @@
-//! Parts that wait for others.
+//! A session waits for a later place.
 
 ghost use Rattle.std.specs.Prelude.{◌≡◌};
 ghost use Rattle.c5_replay.specs.Answered.{OnlyReads};
@@ -7,17 +7,6 @@ use crate::shared::MAX_STALLED;
 use c5_board::{Board, BoardPass};
 use c5_reads::ReadSession;
 use std::thread;
-
-// How often a part that waits gives its processor away before it looks again. A part that looks
-// more often slows the others: it keeps taking the words that they store into its own cache.
-const GIVEN_AWAY: u32 = 32;
-
-/// Gives the processor away to the parts that this one waits for.
-pub fn give_way() {
-    for _ in 0..GIVEN_AWAY {
-        thread::yield_now();
-    }
-}
 
 /// Loads the visible place until it is above this one or the last of all, at most 1,000 times.
 /// Between two loads it gives its processor away.
@@ -37,6 +26,6 @@ pub fn wait_for_place(
         if place > last || place == total {
             return;
         }
-        give_way();
+        thread::yield_now();
     }
 }

@@ -5,10 +5,10 @@ ghost use Rattle.c5_workers.specs.Work.{FitsWorker};
 ghost use Rattle.c5_replay.specs.Parts.{IsPassWith};
 
 use crate::shared::MAX_STALLED;
-use crate::waiting::give_way;
 use c5_board::{Board, BoardPass};
 use c5_io::{Gate, Role};
 use c5_workers::{WorkTurn, Worker};
+use std::thread;
 
 // Whether a turn installed a write.
 fn has_installed(turn: WorkTurn) -> bool {
@@ -42,6 +42,6 @@ pub fn work<G: Gate>(board: &Board<'_>, gate: &G, i: u32, pass: &mut BoardPass, 
         if stalled == MAX_STALLED {
             return;
         }
-        give_way();
+        thread::yield_now();
     }
 }
