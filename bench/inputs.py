@@ -1,7 +1,9 @@
 """Writes the logs and scripts that the benchmarks read: `python3 bench/inputs.py FOLDER [NAME ..]`."""
 import itertools
 import os
+import subprocess
 import sys
+import tempfile
 
 sys.path.insert(0, os.path.join(os.path.dirname(os.path.dirname(os.path.abspath(__file__))), "tests"))
 from schedule import generated_script  # noqa: E402
@@ -115,6 +117,15 @@ def one_bucket(out):
 
 def many_buckets(out):
     one_put_each(out, [b"k%011d" % number for number in range(BUCKET_ROWS)])
+
+
+# As many whose names begin at one place of the hash map in which rows are counted; bench/collide.c finds them.
+def one_hash(out):
+    with tempfile.TemporaryDirectory() as folder:
+        program = os.path.join(folder, "collide")
+        subprocess.run(["cc", "-O2", "-o", program, os.path.join(os.path.dirname(os.path.abspath(__file__)), "collide.c")], check=True)
+        found = subprocess.run([program, str(BUCKET_ROWS)], stdout=subprocess.PIPE, check=True).stdout
+    one_put_each(out, found.split())
 
 
 SCRIPT_BYTES = 4_194_304

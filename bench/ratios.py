@@ -9,7 +9,7 @@ from command import LARGE_PAGES, PROGRAM, TOP, once, peak
 
 sys.path.insert(0, os.path.join(TOP, "tests"))
 import reference  # noqa: E402
-from inputs import GENERATED, TRANSACTIONS  # noqa: E402
+from inputs import GENERATED, TRANSACTIONS, one_hash  # noqa: E402
 
 RUNS = 11
 
@@ -162,7 +162,14 @@ def bucket(folder):
           (["backup"], folder.backup("one_bucket")), (["backup"], folder.backup("many_buckets")))
 
 
-PARTS = {"replay": replay, "keeps_up": keeps_up, "clone": clone, "threads": threads, "gen": gen, "turns": turns, "bucket": bucket}
+# The worst names for the hash map in which the rows of a log are counted. Finding them takes a C compiler, and a minute.
+def hashes(folder):
+    worst = folder.made("one_hash.log", one_hash)
+    ratio("16,384 rows whose names begin at one place of the hash map, and as many others", None,
+          (["apply"], worst), (["apply"], folder.log("many_buckets")))
+
+
+PARTS = {"replay": replay, "keeps_up": keeps_up, "clone": clone, "threads": threads, "gen": gen, "turns": turns, "bucket": bucket, "hash": hashes}
 
 
 def main():
