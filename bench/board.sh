@@ -1,7 +1,7 @@
 #!/bin/sh
 # Prints how long a log of 262,144 writes takes to be decoded, how long to be decoded, scheduled, installed and made
-# visible on one thread, and how much longer the rest takes than decoding. Each time has the making of the log in it, the
-# second one that of the board.
+# visible on one thread, and how much longer the rest takes than decoding. Both times have the making of
+# the log in them, the second one also that of the board.
 set -eu
 top=$(cd "$(dirname "$0")/.." && pwd)
 program="$top/crates/bench_board/out/bench_board"

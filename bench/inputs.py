@@ -119,13 +119,15 @@ def many_buckets(out):
     one_put_each(out, [b"k%011d" % number for number in range(BUCKET_ROWS)])
 
 
-# As many whose names begin at one place of the hash map in which rows are counted; bench/collide.c finds them.
+# As many whose names begin at one place of the hash map in which rows are counted.
+# bench/collide.c finds them.
 def one_hash(out):
+    source = os.path.join(os.path.dirname(os.path.abspath(__file__)), "collide.c")
     with tempfile.TemporaryDirectory() as folder:
         program = os.path.join(folder, "collide")
-        subprocess.run(["cc", "-O2", "-o", program, os.path.join(os.path.dirname(os.path.abspath(__file__)), "collide.c")], check=True)
-        found = subprocess.run([program, str(BUCKET_ROWS)], stdout=subprocess.PIPE, check=True).stdout
-    one_put_each(out, found.split())
+        subprocess.run(["cc", "-O2", "-o", program, source], check=True)
+        found = subprocess.run([program, str(BUCKET_ROWS)], stdout=subprocess.PIPE, check=True)
+    one_put_each(out, found.stdout.split())
 
 
 SCRIPT_BYTES = 4_194_304

@@ -162,14 +162,16 @@ def bucket(folder):
           (["backup"], folder.backup("one_bucket")), (["backup"], folder.backup("many_buckets")))
 
 
-# The worst names for the hash map in which the rows of a log are counted. Finding them takes a C compiler, and a minute.
+# The worst names for the hash map in which the rows of a log are counted. Finding them takes a C
+# compiler, and up to a minute.
 def hashes(folder):
     worst = folder.made("one_hash.log", one_hash)
     ratio("16,384 rows whose names begin at one place of the hash map, and as many others", None,
           (["apply"], worst), (["apply"], folder.log("many_buckets")))
 
 
-PARTS = {"replay": replay, "keeps_up": keeps_up, "clone": clone, "threads": threads, "gen": gen, "turns": turns, "bucket": bucket, "hash": hashes}
+PARTS = {"replay": replay, "keeps_up": keeps_up, "clone": clone, "threads": threads, "gen": gen,
+         "turns": turns, "bucket": bucket, "hash": hashes}
 
 
 def main():
