@@ -1,6 +1,7 @@
 //! Decodes a generated log of 262,144 writes to 65,536 rows, schedules and installs them on one
-//! thread and makes them visible, and prints the counts. With a word on its command line it only
-//! decodes the log.
+//! thread and makes them visible, and prints the counts. Each word on its command line leaves out
+//! a last part: one stops it once the board is made, two once the log is decoded, three once the
+//! log is generated.
 #![tactic(auto)]
 
 mod generated;
@@ -20,9 +21,9 @@ use std::alloc::Global;
 use std::rt::Env;
 use std::{env, io};
 
-// Whether there is a word after the program's name.
-fn is_decoding_alone<R: Env + AllocGlobal>(rt: &R) -> io::Result<bool> {
-    Ok(env::args(rt)?.nth(1).is_some())
+// How many of the last parts are left out: the number of words after the program's name.
+fn parts_left_out<R: Env + AllocGlobal>(rt: &R) -> io::Result<usize> {
+    Ok(env::args(rt)?.len().saturating_sub(1))
 }
 
 // `None` if it isn't a log, or out of memory.
@@ -69,9 +70,13 @@ fn installed(alloc: Global, board: &Board<'_>, pass: &mut BoardPass) -> Result<(
     Ok(())
 }
 
-// The place that is visible once all writes of the log are installed; 0 if it has too many rows.
-fn visible_place(alloc: Global, plan: &Plan<'_>) -> Result<u32, NoMemory> {
+// The place that is visible once all writes of the log are installed; 0 if it has too many rows,
+// or if the board is only made.
+fn visible_place(alloc: Global, plan: &Plan<'_>, only_made: bool) -> Result<u32, NoMemory> {
     let (board, mut pass) = Board::new(alloc, plan, 2)?;
+    if only_made {
+        return Ok(0);
+    }
     if !scheduled(alloc, &board, &mut pass)? {
         return Ok(0);
     }
@@ -80,10 +85,13 @@ fn visible_place(alloc: Global, plan: &Plan<'_>) -> Result<u32, NoMemory> {
 }
 
 fn main(rt: HostRuntime) -> io::Result<()> {
-    let alone = is_decoding_alone(&rt)?;
+    let left_out = parts_left_out(&rt)?;
     let Ok(bytes) = generated_log(rt.alloc()) else {
         return println!(rt; "no memory");
     };
+    if left_out > 2 {
+        return println!(rt; "{} bytes", bytes.len());
+    }
     let Some(log) = decoded(rt.alloc(), bytes.as_slice()) else {
         return println!(rt; "no log");
     };
@@ -92,13 +100,13 @@ fn main(rt: HostRuntime) -> io::Result<()> {
         log.transactions(),
         log.writes()
     )?;
-    if alone {
+    if left_out > 1 {
         return Ok(());
     }
     let Ok(plan) = plan(&log) else {
         return println!(rt; "no plan");
     };
-    match visible_place(rt.alloc(), &plan) {
+    match visible_place(rt.alloc(), &plan, left_out > 0) {
         Ok(place) => println!(rt; "{place} transactions are visible"),
         Err(NoMemory) => println!(rt; "no memory"),
     }

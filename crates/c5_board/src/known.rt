@@ -4,7 +4,7 @@ use c5_frames::LogBuffer;
 use std::collections::LinkedList;
 
 /// What is recorded of a write.
-#[derive(Clone, Copy, PartialEq, Eq)]
+#[derive(Clone, Copy)]
 pub struct Record {
     /// The number of its row: that of the row's first write.
     pub row: u32,

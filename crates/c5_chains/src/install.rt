@@ -1,7 +1,7 @@
 //! What became of a write that was tried.
 
 /// What became of a write that was tried.
-#[derive(Clone, Copy, PartialEq, Eq)]
+#[derive(Clone, Copy)]
 pub enum Install {
     /// The head of its row was its predecessor, and is now the write.
     Installed,

@@ -1,7 +1,7 @@
 //! Where the path of a name ends.
 
 /// Where the path of a name ends.
-#[derive(Clone, Copy, PartialEq, Eq)]
+#[derive(Clone, Copy)]
 pub enum PathEnd {
     /// At the row of the name, which has this number.
     Row(u32),

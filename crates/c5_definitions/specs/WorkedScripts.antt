@@ -45,7 +45,8 @@ quoted_parts = record {
 -- end
 abbrev pub all_text : List ℕ
 all_text =
-    codes "  table acct int \n\ntxn\nneed acct a 0 ge 007\n add  acct a 0 -1\nend\nread 1\nrow acct a\nsum acct 0 a b\nend\nturns w1 v s16"
+    codes "  table acct int \n\ntxn\nneed acct a 0 ge 007\n add  acct a 0 -1\nend\n"
+    ++ codes "read 1\nrow acct a\nsum acct 0 a b\nend\nturns w1 v s16"
 
 abbrev pub all_parts : ScriptParts
 all_parts = record {

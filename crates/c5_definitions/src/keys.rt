@@ -7,7 +7,7 @@ use c5_rows::{Key, MAX_SUM_KEYS, Padded};
 use std::marker::Model;
 
 /// 1 to 16 keys, held in the value itself.
-#[derive(Clone, Copy, PartialEq, Eq)]
+#[derive(Clone, Copy)]
 pub struct Keys {
     keys: Padded<Key, MAX_SUM_KEYS>,
 }

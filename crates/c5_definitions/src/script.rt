@@ -52,7 +52,7 @@ pub enum Statement {
 }
 
 /// A line of a read block. Columns count from 0.
-#[derive(Clone, Copy, PartialEq, Eq)]
+#[derive(Clone, Copy)]
 pub enum ReadLine {
     /// Asks for a row.
     OneRow { name: RowName },
@@ -103,7 +103,7 @@ pub enum ScriptKind {
 }
 
 /// The first fault of a script.
-#[derive(Clone, Copy, Debug, PartialEq, Eq)]
+#[derive(Clone, Copy, Debug)]
 pub struct ScriptFault {
     /// The faulty line; lines count from 1. What is missing at the end is missing on the line after
     /// the last.

@@ -25,7 +25,7 @@ use c5_plan::Plan;
 use c5_replay::{ReplayFault, Replayed, replay};
 use c5_rows::{NoMemory, Replies, Reply, Rows, Schema};
 use c5_script::Script;
-use c5_text::{reply_text, rows_text};
+use c5_text::{push_rows, reply_text};
 use c5_words::Options;
 use std::alloc::Global;
 use std::thread::Threads;
@@ -62,23 +62,6 @@ fn push_replies(
     for reply in replies {
         push_reply(alloc, text, schema, reply, total)?;
     }
-    Ok(())
-}
-
-// Appends the rows. They are dropped once they are listed, so that the list and the rows aren't in
-// memory while the text is made.
-fn push_rows(alloc: Global, text: &mut Vec<u8>, schema: &Schema, rows: Rows) -> Result<(), NoMemory>
-    ensures { OnOk result (text.new.items ≡ text.old.items ++ rows_text schema.now rows) }
-{
-    let entries = rows.list(alloc)?;
-    drop(rows);
-    let lines = rows_text(alloc, schema, &entries)?;
-    drop(entries);
-    if text.is_empty() {
-        *text = lines;
-        return Ok(());
-    }
-    text.extend_from_slice(&lines)?;
     Ok(())
 }
 
@@ -175,7 +158,7 @@ pub fn push_replies_and_rows(
 {
     push_replies(alloc, text, schema, replies.as_slice(), total)?;
     drop(replies);
-    push_rows(alloc, text, schema, rows)
+    push_rows(text, schema, &rows)
 }
 
 /// Appends what a replay gave, with each reply at a place of at most `total`.

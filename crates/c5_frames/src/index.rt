@@ -20,7 +20,7 @@ pub struct TxnRef {
 }
 
 /// Where the payload of a write lies.
-#[derive(Clone, Copy, PartialEq, Eq)]
+#[derive(Clone, Copy)]
 pub struct Place {
     pub at: u32,
     pub size: u32,

@@ -5,7 +5,7 @@
 //! | part | bytes |
 //! |---|---|
 //! | header | `43 35 4C 31`; u8 number of tables, 1 to 16; each table |
-//! | table | u8 length of the name, 1 to 16; the name; u8 number of columns, 1 to 8; a byte for each, `01` Int or `02` Text |
+//! | table | u8 length, 1 to 16; the name; u8 number of columns, 1 to 8; each `01` Int or `02` Text |
 //! | frame | u32 length of the payload, 5 to 300; the payload |
 //! | write | `57`; u8 table; u8 length of the key, 1 to 32; the key; `00` and the cells, or `01` |
 //! | Int cell | 8 bytes of two's complement |

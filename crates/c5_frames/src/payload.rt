@@ -12,7 +12,7 @@ use c5_definitions::LogKind;
 use c5_rows::{CellType, MAX_KEY_BYTES, MAX_TEXT_BYTES, TableDef, are_key_bytes, are_text_bytes};
 
 /// The numbers of a commit mark.
-#[derive(Clone, Copy, PartialEq, Eq)]
+#[derive(Clone, Copy)]
 pub struct Mark {
     pub script: u32,
     pub stamp: u64,

@@ -8,7 +8,7 @@ use c5_rows::TableName;
 
 /// The item that comes next, with what the ones before it say of it: how many tables are still to
 /// come, the name of the table whose columns come, how many bytes the item has.
-#[derive(Clone, Copy, PartialEq, Eq)]
+#[derive(Clone, Copy)]
 pub enum Stage {
     Magic,
     TableCount,

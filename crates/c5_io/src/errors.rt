@@ -8,7 +8,7 @@ use std::alloc::AllocError;
 pub struct Failed;
 
 /// Why a whole input was not read.
-#[derive(Clone, Copy, Debug, PartialEq, Eq)]
+#[derive(Clone, Copy, Debug)]
 pub enum InFault {
     /// A read failed.
     Failed,

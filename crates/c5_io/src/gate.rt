@@ -1,5 +1,5 @@
 /// Who takes a turn. The number is the worker's or the session's own.
-#[derive(Clone, Copy, PartialEq, Eq)]
+#[derive(Clone, Copy)]
 pub enum Role {
     Primary(u32),
     Scheduler,
@@ -15,7 +15,7 @@ pub trait Gate: Sync {
 }
 
 /// A gate that holds nobody up.
-#[derive(Clone, Copy, PartialEq, Eq)]
+#[derive(Clone, Copy)]
 pub struct OpenGate;
 
 impl Gate for OpenGate {

@@ -27,7 +27,7 @@ impl From<NoMemory> for BeginFault {
 }
 
 /// What a commit came to.
-#[derive(Clone, Copy, PartialEq, Eq)]
+#[derive(Clone, Copy)]
 pub enum Decision {
     /// The transaction is committed.
     Committed,

@@ -8,7 +8,7 @@ use std::alloc::Global;
 use std::collections::{BTreeMap, BTreeSet};
 
 /// A transaction that was begun.
-#[derive(Clone, Copy, PartialEq, Eq)]
+#[derive(Clone, Copy)]
 pub struct TxnState {
     pub caller: u64,
     pub script: u32,
@@ -17,7 +17,7 @@ pub struct TxnState {
 }
 
 /// What became of a body.
-#[derive(Clone, Copy, PartialEq, Eq)]
+#[derive(Clone, Copy)]
 pub enum BodyState {
     /// No transaction of it is open or committed.
     Free,

@@ -20,7 +20,7 @@ pub struct VersionKey {
 }
 
 /// A version that was found.
-#[derive(Clone, Copy, PartialEq, Eq)]
+#[derive(Clone, Copy)]
 pub struct Found {
     /// The stamp that wrote it; 0 for the start version.
     pub wrote: u64,
@@ -122,7 +122,7 @@ pub fn install(
 }
 
 /// A later stamp has read the version of a row that an earlier stamp sees.
-#[derive(Clone, Copy, PartialEq, Eq)]
+#[derive(Clone, Copy)]
 pub struct LaterReader {
     pub row: RowName,
     /// The greatest stamp that has read it.

@@ -8,7 +8,7 @@ use c5_frames::LogBuffer;
 use c5_rows::{MAX_TRANSACTIONS, MAX_WRITES};
 
 /// Which limit a log passes.
-#[derive(Clone, Copy, PartialEq, Eq)]
+#[derive(Clone, Copy)]
 pub enum PlanFault {
     /// It has more than 65,536 transactions.
     Transactions,

@@ -7,7 +7,7 @@ use c5_rows::NoMemory;
 use std::alloc::{AllocError, AllocFailed};
 
 /// Why a log is not replayed.
-#[derive(Clone, Copy, PartialEq, Eq)]
+#[derive(Clone, Copy)]
 pub enum ReplayFault {
     /// The log writes more than 65,536 rows.
     Rows,

@@ -125,7 +125,7 @@ impl Key {
 }
 
 /// The text of a cell: 0 to 32 bytes, each from `20` to `7E` (hexadecimal) and not `22`.
-#[derive(Clone, Copy, Debug, PartialEq, Eq, PartialOrd, Ord)]
+#[derive(Clone, Copy, Debug, PartialEq, Eq)]
 pub struct TextCell {
     bytes: Padded<u8, MAX_TEXT_BYTES>,
 }
@@ -170,7 +170,7 @@ impl TextCell {
 }
 
 /// The name of a table: 1 to 16 bytes of `a-z`, `0-9` and `_`.
-#[derive(Clone, Copy, PartialEq, Eq, PartialOrd, Ord)]
+#[derive(Clone, Copy, PartialEq, Eq)]
 pub struct TableName {
     bytes: Padded<u8, MAX_NAME_BYTES>,
 }

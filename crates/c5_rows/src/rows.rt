@@ -1,6 +1,8 @@
 //! Rows by their names.
 
-ghost use Rattle.std.specs.Prelude.{◌≡◌, ◌<◌, List, length, take, OnOk, OnErr, IfOk, IfErr};
+ghost use Rattle.std.specs.Prelude.{◌≡◌, ◌<◌, List, length, take, map as mapped};
+ghost use Rattle.std.specs.Prelude.{OnOk, OnErr, IfOk, IfErr};
+ghost use Rattle.std.specs.Map.Iter.{ShowsInOrder, deref_pair};
 ghost use Rattle.std.specs.Option.{option_copied, option_map};
 ghost use Rattle.c5_rows.specs.declared.cells.Cell.{Cell};
 ghost use Rattle.std.specs.FinMap as map;
@@ -10,6 +12,7 @@ use crate::memory::NoMemory;
 use crate::writes::{Change, RowName, Txn};
 use std::alloc::Global;
 use std::collections::BTreeMap;
+use std::collections::btree_map::Iter;
 use std::marker::Model;
 
 /// A row and its name.
@@ -69,7 +72,7 @@ impl<H: HeldRow> Model for RowMap<H> {
     ghost invariant = { λ r. IsOrdered row_name_cmp r.rows };
 }
 
-ghost use Rattle.c5_rows.specs.State.{after_change, after_writes, rows_of};
+ghost use Rattle.c5_rows.specs.State.{after_change, after_writes, entry_of, rows_of};
 ghost use Rattle.c5_rows.specs.Order.{row_name_cmp};
 ghost use Rattle.c5_rows.specs.Held.{rows_held};
 ghost use Rattle.std.specs.BTreeMap.{IsOrdered, IsUnchanged};
@@ -99,12 +102,20 @@ impl<H: HeldRow> RowMap<H> {
         self.rows.len()
     }
 
+    /// Each name and its row as it is held, ascending by name. Takes no memory.
+    pub fn iter(&self) -> Iter<'_, RowName, H>
+        ensures rows { mapped entry_of (rows_held H.row_held result) ≡ rows_of self.now }
+        ensures runs { ShowsInOrder (deref_pair {K = RowName} {X = H}) }
+    {
+        self.rows.iter()
+    }
+
     /// The rows, ascending by name.
     pub fn list(&self, alloc: Global) -> Result<Vec<RowEntry>, NoMemory>
         ensures { IfOk result (λ list. list.items ≡ rows_of self.now) }
     {
         let mut list = Vec::with_capacity(alloc, self.rows.len())?;
-        for (name, held) in self.rows.iter() {
+        for (name, held) in self.iter() {
             list.push(RowEntry {
                 name: *name,
                 row: held.to_row(),

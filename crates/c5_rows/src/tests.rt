@@ -199,6 +199,14 @@ fn rows_follow_whole_transactions(rt: HostRuntime) -> Result<(), Fail> {
         },
     ];
     assert_eq!(rt; list.as_slice(), want.as_slice());
+    let mut in_order = Vec::new(alloc);
+    for (name, row) in copy.iter() {
+        in_order.push(RowEntry {
+            name: *name,
+            row: **row,
+        })?;
+    }
+    assert_eq!(rt; in_order.as_slice(), want.as_slice());
     Ok(())
 }
 

@@ -218,8 +218,8 @@ fn counts_past_their_limits(rt: HostRuntime) -> Result<(), Fail> {
 fn each_line_once(rt: HostRuntime) -> Result<(), Fail> {
     let alloc = rt.alloc();
     let mut script = PartialScript::new(alloc);
-    let lines =
-        "table acct int//txn/put acct a 1/need acct a 0 ge 1/add acct a 0 -1/copy acct a b/del acct a/end/read 2/row acct a/sum acct 0 a b/end/turns w1 v s2";
+    let lines = "table acct int//txn/put acct a 1/need acct a 0 ge 1/add acct a 0 -1\
+        /copy acct a b/del acct a/end/read 2/row acct a/sum acct 0 a b/end/turns w1 v s2";
     assert!(rt; take(alloc, &mut script, lines).is_ok());
     let line = words(alloc, "log")?;
     assert!(rt; script.take_front_line(&line) == Ok(Taken::Log));

@@ -204,7 +204,7 @@ fn copy(body: &mut Body, tables: &[TableDef], words: &[Word]) -> Result<(), Line
 }
 
 // Which statement a line is.
-#[derive(Clone, Copy, PartialEq, Eq)]
+#[derive(Clone, Copy)]
 enum Form {
     Put,
     Del,

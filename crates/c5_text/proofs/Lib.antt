@@ -4,3 +4,4 @@ pub mod Numbers
 pub mod Laws
 pub mod Orders
 pub mod Heads
+pub mod Listings

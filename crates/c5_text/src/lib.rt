@@ -13,7 +13,7 @@ mod replies;
 mod tests;
 mod words;
 
-pub use listing::rows_text;
+pub use listing::{push_rows, rows_text};
 pub use order::{TextFault, order_text, read_order};
 pub use put_off::put_off_text;
 pub use reading::read_row;

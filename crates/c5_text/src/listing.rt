@@ -1,10 +1,11 @@
 //! The lines of all rows, and then the line with their number.
 
 ghost use Rattle.std.specs.Prelude.{◌≡◌, ◌++◌, OnOk, IfOk};
-ghost use Rattle.c5_definitions.specs.Texts.{count_line, entries_text};
+ghost use Rattle.c5_definitions.specs.Texts.{count_line, entries_text, row_line};
+ghost use Rattle.c5_definitions.specs.Texts.{rows_text as text_of_rows};
 
 use crate::lines::push_row;
-use c5_rows::{NoMemory, RowEntry, Schema};
+use c5_rows::{NoMemory, Row, RowEntry, RowName, Rows, Schema, TableDef};
 use itoa::Buffer;
 use std::alloc::Global;
 
@@ -14,6 +15,21 @@ fn push_count(out: &mut Vec<u8>, count: usize) -> Result<(), NoMemory>
 {
     out.extend_from_slice(b"rows ")?;
     out.extend_from_slice(Buffer::new().format(count).as_bytes())?;
+    out.push(b'\n')?;
+    Ok(())
+}
+
+// Appends the line of a row.
+fn push_line(
+    out: &mut Vec<u8>,
+    tables: &[TableDef],
+    name: &RowName,
+    row: &Row,
+) -> Result<(), NoMemory>
+    ensures { OnOk result (out.new.items ≡ out.old.items
+        ++ row_line tables.now (record { name = name.now; row = row.now })) }
+{
+    push_row(out, tables, name, row)?;
     out.push(b'\n')?;
     Ok(())
 }
@@ -28,9 +44,22 @@ pub fn rows_text(alloc: Global, schema: &Schema, rows: &[RowEntry]) -> Result<Ve
     let tables = schema.tables();
     let mut text = Vec::new(alloc);
     for entry in rows {
-        push_row(&mut text, tables, &entry.name, &entry.row)?;
-        text.push(b'\n')?;
+        push_line(&mut text, tables, &entry.name, &entry.row)?;
     }
     push_count(&mut text, rows.len())?;
     Ok(text)
+}
+
+/// Appends the text of a map of rows, as [`rows_text`] has it of a list. It takes memory for the
+/// text alone.
+pub fn push_rows(out: &mut Vec<u8>, schema: &Schema, rows: &Rows) -> Result<(), NoMemory>
+    ensures { OnOk result (out.new.items ≡ out.old.items
+        ++ text_of_rows schema.now rows.now) }
+{
+    let tables = schema.tables();
+    for (name, row) in rows.iter() {
+        push_line(out, tables, name, row)?;
+    }
+    push_count(out, rows.len())?;
+    Ok(())
 }

@@ -9,7 +9,7 @@ use c5_rows::NoMemory;
 use std::alloc::{AllocFailed, Global};
 
 /// Why a line isn't read.
-#[derive(Clone, Copy, Debug, PartialEq, Eq)]
+#[derive(Clone, Copy, Debug)]
 pub enum TextFault {
     /// The line isn't such a text.
     NotOne,

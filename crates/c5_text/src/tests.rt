@@ -1,9 +1,10 @@
 use crate::{
-    ReplyHead, TextFault, order_text, read_head, read_order, read_row, reply_text, rows_text,
+    ReplyHead, TextFault, order_text, push_rows, read_head, read_order, read_row, reply_text,
+    rows_text,
 };
 use c5_definitions::{lines_of_replies, one_order_and_places};
 use c5_rows::{
-    Answer, AnswerLine, Cell, CellType, Columns, Key, Reply, Row, RowEntry, RowName, Schema,
+    Answer, AnswerLine, Cell, CellType, Columns, Key, Reply, Row, RowEntry, RowName, Rows, Schema,
     TableDef, TableName, TextCell,
 };
 use std::test::Fail;
@@ -70,6 +71,24 @@ fn lines_of_rows(rt: HostRuntime) -> Result<(), Fail> {
         let text = rows_text(rt.alloc(), &schema, &rows[..count])?;
         assert_eq!(rt; text.as_slice(), want.as_bytes());
     }
+    Ok(())
+}
+
+#[test]
+fn lines_of_a_map(rt: HostRuntime) -> Result<(), Fail> {
+    let schema = Schema::one(table(b"acct")?);
+    let mut rows = Rows::new(rt.alloc());
+    for (key, cell) in [(b"b", 2), (b"a", 10)] {
+        let entry = entry(0, key, &[Cell::Int(cell)])?;
+        rows.put(&entry.name, Box::new(rt.alloc(), entry.row)?)?;
+    }
+    let mut text = Vec::new(rt.alloc());
+    text.extend_from_slice(b"order 1\n")?;
+    push_rows(&mut text, &schema, &rows)?;
+    assert_eq!(rt;
+        text.as_slice(),
+        b"order 1\nacct a 10\nacct b 2\nrows 2\n".as_slice()
+    );
     Ok(())
 }
 
@@ -273,8 +292,9 @@ fn heads(rt: HostRuntime) -> Result<(), Fail> {
 fn an_output_read_back(rt: HostRuntime) -> Result<(), Fail> {
     one_order_and_places();
     lines_of_replies();
-    let mut lines =
-        "order 1 0\nread 1 place 0 lag 2\nacct a -\nread 1 place 2 lag 0\nacct a 10\nacct a 10\nrows 1\n".lines();
+    let text = "order 1 0\nread 1 place 0 lag 2\nacct a -\n\
+        read 1 place 2 lag 0\nacct a 10\nacct a 10\nrows 1\n";
+    let mut lines = text.lines();
     let order = read_order(rt.alloc(), lines.next().ok_or("no order")?.as_bytes())?;
     assert_eq!(rt; order.as_slice(), [1, 0].as_slice());
     for place in [0, 2] {

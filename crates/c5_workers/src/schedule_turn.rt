@@ -12,7 +12,7 @@ pub enum ScheduleTurn {
 }
 
 /// How scheduling a whole log ends.
-#[derive(Clone, Copy, PartialEq, Eq)]
+#[derive(Clone, Copy)]
 pub enum ScheduleEnd {
     /// Each write of the log is scheduled.
     Done,

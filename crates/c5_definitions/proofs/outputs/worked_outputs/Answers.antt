@@ -129,7 +129,8 @@ unfolding digits
 quiet-prints = rw (absent no_rows 1 none_there, no_entries (List Cell)) refl
 
 put_first-prints : backup_text busy_script put_first (2 ∷ 0 ∷ 1 ∷ [])
-    ≡ codes "read 1 place 2 lag 0\nsum 15\nread 2 place 0 lag 2\nacct a -\nread 2 place 1 lag 1\nacct a 10\nacct a 15\nrows 1\n"
+    ≡ codes "read 1 place 2 lag 0\nsum 15\nread 2 place 0 lag 2\nacct a -\n"
+    ++ codes "read 2 place 1 lag 1\nacct a 10\nacct a 15\nrows 1\n"
 unfolding digits
 put_first-prints =
     rw (
@@ -141,7 +142,8 @@ put_first-prints =
     ) refl
 
 add_first-prints : backup_text busy_script add_first (1 ∷ 1 ∷ 2 ∷ [])
-    ≡ codes "read 1 place 1 lag 1\nsum 0\nread 2 place 1 lag 1\nacct a -\nread 2 place 2 lag 0\nacct a 10\nacct a 10\nrows 1\n"
+    ≡ codes "read 1 place 1 lag 1\nsum 0\nread 2 place 1 lag 1\nacct a -\n"
+    ++ codes "read 2 place 2 lag 0\nacct a 10\nacct a 10\nrows 1\n"
 unfolding digits
 add_first-prints =
     rw (
