@@ -1,5 +1,6 @@
 #!/bin/sh
-# Makes the inputs, if they aren't there, and prints how long `c5 apply` takes on them beside md5sum, as rows of docs/BENCHMARKS.md's table.
+# Makes the inputs, if they aren't there, and prints how long `c5 apply` takes on them beside
+# md5sum, as rows of docs/BENCHMARKS.md's table.
 set -eu
 top=$(cd "$(dirname "$0")/.." && pwd)
 [ -f "$top/bench/data/generated.c5s" ] || python3 "$top/bench/inputs.py" "$top/bench/data"

@@ -1,6 +1,7 @@
-"""Times a command of `c5` beside another program on the same files, the best of several runs, and prints the rows of
-docs/BENCHMARKS.md's table: `python3 bench/command.py FOLDER apply|primary|pages`. With `pages` it times both commands with and
-without the large pages that the script `c5` asks the C library for."""
+"""Times a command of `c5` beside another program on the same files, the best of several runs, and
+prints the rows of docs/BENCHMARKS.md's table: `python3 bench/command.py FOLDER
+apply|primary|pages`. With `pages` it times both commands with and without the large pages that the
+script `c5` asks the C library for."""
 import os
 import subprocess
 import sys
@@ -28,8 +29,9 @@ FILES = {
 LARGE_PAGES = dict(os.environ, LC_ALL="C", GLIBC_TUNABLES="glibc.malloc.hugetlb=1")
 SMALL_PAGES = {key: value for key, value in LARGE_PAGES.items() if key != "GLIBC_TUNABLES"}
 
-# A process that was started from Python begins with Python's own peak, so the program is started by a shell, which is
-# small, and the shell then becomes a Python that prints the peak of the shell's children.
+# A process that was started from Python begins with Python's own peak, so the program is started by
+# a shell, which is small, and the shell then becomes a Python that prints the peak of the shell's
+# children.
 MEASURE = '"$0" "$@" >/dev/null || exit; exec "$PYTHON" -c "$PEAK"'
 PEAK = "import resource; print(resource.getrusage(resource.RUSAGE_CHILDREN).ru_maxrss)"
 
@@ -49,7 +51,8 @@ def once(command, path, env):
 # The peak of resident memory, in MB.
 def peak(command, path, env):
     with open(path, "rb") as source:
-        how = {"stdin": source, "stdout": subprocess.PIPE, "env": dict(env, PYTHON=sys.executable, PEAK=PEAK), "check": True}
+        how = {"stdin": source, "stdout": subprocess.PIPE,
+               "env": dict(env, PYTHON=sys.executable, PEAK=PEAK), "check": True}
         return int(subprocess.run(["/bin/sh", "-c", MEASURE, *command], **how).stdout) * 1024 / 1e6
 
 
@@ -64,7 +67,8 @@ def compare_with_another(folder, command):
     for name, what in FILES[command].items():
         path = os.path.join(folder, name)
         (other, _), (ours, _) = best([([beside], LARGE_PAGES), (program, LARGE_PAGES)], path)
-        print(f"| `{command}` | {what} | {os.path.getsize(path):,} | {ours:.0f} ms | `{beside}`, {other:.0f} ms | {ours / other:.1f} | "
+        print(f"| `{command}` | {what} | {os.path.getsize(path):,} | {ours:.0f} ms | `{beside}`, "
+              f"{other:.0f} ms | {ours / other:.1f} | "
               f"{peak(program, path, LARGE_PAGES):.0f} MB |", flush=True)
 
 
@@ -72,9 +76,11 @@ def compare_pages(folder):
     for command, names in FILES.items():
         for name, what in names.items():
             path, program = os.path.join(folder, name), [PROGRAM, command]
-            (large, large_system), (small, small_system) = best([(program, LARGE_PAGES), (program, SMALL_PAGES)], path)
+            (large, large_system), (small, small_system) = best([(program, LARGE_PAGES),
+                (program, SMALL_PAGES)], path)
             peaks = [peak(program, path, env) for env in (LARGE_PAGES, SMALL_PAGES)]
-            print(f"`{command}`, {what}: large pages {large:.0f} ms (the system {large_system:.0f} ms, peak {peaks[0]:.0f} MB), "
+            print(f"`{command}`, {what}: large pages {large:.0f} ms "
+                  f"(the system {large_system:.0f} ms, peak {peaks[0]:.0f} MB), "
                   f"small {small:.0f} ms ({small_system:.0f} ms, {peaks[1]:.0f} MB)", flush=True)
 
 

@@ -1,11 +1,13 @@
-"""Writes the logs and scripts that the benchmarks read: `python3 bench/inputs.py FOLDER [NAME ..]`."""
+"""Writes the logs and scripts that the benchmarks read:
+`python3 bench/inputs.py FOLDER [NAME ..]`."""
 import itertools
 import os
 import subprocess
 import sys
 import tempfile
 
-sys.path.insert(0, os.path.join(os.path.dirname(os.path.dirname(os.path.abspath(__file__))), "tests"))
+sys.path.insert(0, os.path.join(os.path.dirname(os.path.dirname(os.path.abspath(__file__))),
+                                "tests"))
 from schedule import generated_script  # noqa: E402
 
 
@@ -18,7 +20,8 @@ def text(data):
 
 
 def mark(script, stamp, count):
-    return frame(b"C" + script.to_bytes(4, "big") + stamp.to_bytes(8, "big") + count.to_bytes(4, "big"))
+    return frame(b"C" + script.to_bytes(4, "big") + stamp.to_bytes(8, "big")
+                 + count.to_bytes(4, "big"))
 
 
 def end(count):
@@ -81,24 +84,29 @@ def one_transaction(out):
     out.write(mark(0, 1, TRANSACTIONS) + end(1))
 
 
-# As many rows whose names all begin at one bucket of a board's index as are replayed in some seconds.
+# As many rows whose names all begin at one bucket of a board's index as are replayed in some
+# seconds.
 BUCKET_ROWS = 16_384
 
 
-# The low bits of the hash of a board's index, FNV-1a, after these bytes. They depend on no higher bits.
+# The low bits of the hash of a board's index, FNV-1a, after these bytes. They depend on no higher
+# bits.
 def low_bits(state, data, bits):
     for byte in data:
         state = (state ^ byte) * 1_099_511_628_211 % (1 << bits)
     return state
 
 
-# Keys of the table 0 that all begin at one bucket: made of blocks that each leave the low bits as they are.
+# Keys of the table 0 that all begin at one bucket: made of blocks that each leave the low bits as
+# they are.
 def colliding_keys():
     bits = (2 * BUCKET_ROWS - 1).bit_length()
     start = low_bits(14_695_981_039_346_656_037 % (1 << bits), b"\0", bits)
     letters = bytes(byte for byte in range(0x21, 0x7F) if byte != 0x22)
-    blocks = [bytes(block) for block in itertools.product(letters, repeat=3) if low_bits(start, block, bits) == start]
-    keys = [b"".join(parts) for parts in itertools.islice(itertools.product(blocks, repeat=4), BUCKET_ROWS)]
+    blocks = [bytes(block) for block in itertools.product(letters, repeat=3)
+              if low_bits(start, block, bits) == start]
+    keys = [b"".join(parts) for parts in itertools.islice(itertools.product(blocks, repeat=4),
+                                                          BUCKET_ROWS)]
     assert len(keys) == BUCKET_ROWS
     return keys
 
@@ -110,7 +118,8 @@ def one_put_each(out, keys):
     out.write(mark(0, 1, len(keys)) + end(1))
 
 
-# One transaction of puts whose names all begin at one bucket, and one of as many other names of 12 bytes.
+# One transaction of puts whose names all begin at one bucket, and one of as many other names of 12
+# bytes.
 def one_bucket(out):
     one_put_each(out, colliding_keys())
 
@@ -170,8 +179,10 @@ def texts(out):
             lines = []
             for k in range(16):
                 row = number * 16 + k
-                lines.append(b'put t%02d key_%05d "text of row %d" %d "more of it"\n' % (k, row * 40_503 % 50_000, row, row))
-            lines.append(b"copy t%02d key_%05d copy_%04d\n" % (number % 16, number * 40_503 % 50_000, number % 1000))
+                lines.append(b'put t%02d key_%05d "text of row %d" %d "more of it"\n' % (k,
+                    row * 40_503 % 50_000, row, row))
+            lines.append(b"copy t%02d key_%05d copy_%04d\n" % (number % 16,
+                number * 40_503 % 50_000, number % 1000))
             yield b"txn\n" + b"".join(lines) + b"end\n"
             number += 1
 
@@ -180,7 +191,8 @@ def texts(out):
 
 # Transactions that all read and write one row.
 def one_row(out):
-    fill(out, b"table acct int\ntxn\nput acct a 0\nend\n", (b"txn\nneed acct a 0 ge 0\nadd acct a 0 1\nend\n" for _ in range(TRANSACTIONS - 1)))
+    fill(out, b"table acct int\ntxn\nput acct a 0\nend\n",
+         (b"txn\nneed acct a 0 ge 0\nadd acct a 0 1\nend\n" for _ in range(TRANSACTIONS - 1)))
 
 
 # Transactions of 4 puts over 64,000 rows far apart from each other.
@@ -188,32 +200,39 @@ def many_puts(out):
     def blocks():
         for number in range(TRANSACTIONS):
             rows = (((number * 4 + k) * 40_503 % 64_000) for k in range(4))
-            yield b"txn\n" + b"".join(b"put acct r%05d %d\n" % (row, number % 10) for row in rows) + b"end\n"
+            yield b"txn\n" + b"".join(b"put acct r%05d %d\n" % (row, number % 10)
+                                      for row in rows) + b"end\n"
 
     fill(out, b"table acct int\n", blocks())
 
 
 # 65,536 transactions of one put on a row of its own.
 def own_rows(out):
-    fill(out, b"table t int\n", (b"txn\nput t %d 1\nend\n" % number for number in range(TRANSACTIONS)))
+    fill(out, b"table t int\n", (b"txn\nput t %d 1\nend\n" % number
+                                 for number in range(TRANSACTIONS)))
 
 
 # 65,536 transactions of 2 additions over 30,000 rows, which are put first.
 def small(out):
     def blocks():
         for first in range(0, 30_000, 256):
-            yield b"txn\n" + b"".join(b"put t %d 9\n" % row for row in range(first, min(first + 256, 30_000))) + b"end\n"
+            yield b"txn\n" + b"".join(b"put t %d 9\n" % row
+                                      for row in range(first, min(first + 256, 30_000))) + b"end\n"
         for number in range(TRANSACTIONS - 118):
-            yield b"txn\nadd t %d 0 1\nadd t %d 0 1\nend\n" % (number * 40_503 % 30_000, number * 7 % 30_000)
+            yield b"txn\nadd t %d 0 1\nadd t %d 0 1\nend\n" % (number * 40_503 % 30_000,
+                number * 7 % 30_000)
 
     fill(out, b"table t int\n", blocks())
 
 
-# As many words of a schedule as a script may have, and as many transactions, of one put each over 1,000 rows.
+# As many words of a schedule as a script may have, and as many transactions, of one put each over
+# 1,000 rows.
 def schedule(out):
     words = [b"w%d" % (number % 4 + 1) if number % 16 else b"v" for number in range(65_536)]
-    turns = b"".join(b"turns " + b" ".join(words[at:at + 4096]) + b"\n" for at in range(0, len(words), 4096))
-    fill(out, b"table t int\n" + turns, (b"txn\nput t k%03d %d\nend\n" % (number * 7 % 1000, number % 10) for number in range(TRANSACTIONS)))
+    turns = b"".join(b"turns " + b" ".join(words[at:at + 4096]) + b"\n"
+                     for at in range(0, len(words), 4096))
+    fill(out, b"table t int\n" + turns, (b"txn\nput t k%03d %d\nend\n" % (number * 7 % 1000,
+        number % 10) for number in range(TRANSACTIONS)))
 
 
 # The script of `gen`, as many transactions of it as 4 MiB hold.
@@ -228,8 +247,10 @@ def puts(out):
     fill(out, b"table t int\n", (block for _ in range(1024)))
 
 
-FILES = {"one_bucket": ".log", "many_buckets": ".log", "longest": ".log", "few_rows": ".log", "many_rows": ".log", "one_transaction": ".log",
-         "transfers": ".c5s", "texts": ".c5s", "puts": ".c5s", "one_row": ".c5s", "many_puts": ".c5s", "own_rows": ".c5s", "small": ".c5s",
+FILES = {"one_bucket": ".log", "many_buckets": ".log", "longest": ".log", "few_rows": ".log",
+         "many_rows": ".log", "one_transaction": ".log",
+         "transfers": ".c5s", "texts": ".c5s", "puts": ".c5s", "one_row": ".c5s",
+         "many_puts": ".c5s", "own_rows": ".c5s", "small": ".c5s",
          "schedule": ".c5s", "generated": ".c5s"}
 
 if __name__ == "__main__":

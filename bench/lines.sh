@@ -1,7 +1,8 @@
 #!/bin/sh
-# Counts the lines of the definitions that docs/PROOFS.md and docs/HEADLINE.md name, without imports, comments and empty
-# lines, and prints the documents with these counts; with --write, writes them. A row of such a table is
-# `| N | CRATE: FILE, FILE .. | LINES | .. |`, in backquotes, and the last row of the table is the sum.
+# Counts the lines of the definitions that docs/PROOFS.md and docs/HEADLINE.md name, without
+# imports, comments and empty lines, and prints the documents with these counts; with --write,
+# writes them. A row of such a table is `| N | CRATE: FILE, FILE .. | LINES | .. |`, in backquotes,
+# and the last row of the table is the sum.
 set -eu
 cd "$(dirname "$0")/.."
 written=$(mktemp)
@@ -11,7 +12,7 @@ for document in docs/PROOFS.md docs/HEADLINE.md; do
         function count(file, line, n) {
             n = 0
             while ((getline line < file) > 0)
-                if (line !~ /^ *$/ && line !~ /^ *--/ && line !~ /^(pub )?use / && line !~ /^pub mod /) n++
+                if (line !~ /^ *$/ && line !~ /^ *--/ && line !~ /^((pub )?use|pub mod) /) n++
             close(file)
             if (n == 0) print "lines.sh: nothing in " file >"/dev/stderr"
             return n
@@ -28,7 +29,11 @@ for document in docs/PROOFS.md docs/HEADLINE.md; do
             print "|" cells[2] "|" cells[3] "| " lines " |" cells[5] "|"
             next
         }
-        /^\| \| in all \|/ { split($0, cells, "|"); print "| | in all | " sum " |" cells[5] "|"; next }
+        /^\| \| in all \|/ {
+            split($0, cells, "|")
+            print "| | in all | " sum " |" cells[5] "|"
+            next
+        }
         { print }
     ' "$document" >"$written"
     if [ "${1:-}" = --write ]; then cp "$written" "$document"; else cat "$written"; fi

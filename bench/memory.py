@@ -1,4 +1,5 @@
-"""Prints how much memory the parts of a log and of a script take, from the peaks of two inputs of different sizes."""
+"""Prints how much memory the parts of a log and of a script take, from the peaks of two inputs of
+different sizes."""
 import os
 import sys
 import tempfile
@@ -7,7 +8,8 @@ from command import PROGRAM, SMALL_PAGES, peak
 from inputs import ONE_TABLE, end, frame, mark, text
 
 
-# Bytes of memory for each part, beside the bytes of the input: from inputs of `few` and `many` times so many parts.
+# Bytes of memory for each part, beside the bytes of the input: from inputs of `few` and `many`
+# times so many parts.
 def each(command, make, few, many, parts):
     sizes, peaks = [], []
     for count in (few, many):
@@ -21,7 +23,8 @@ def each(command, make, few, many, parts):
 
 def log(count, writes):
     rows = b"".join(frame(b"W\0" + text(b"%03d" % row) + b"\1") for row in range(writes))
-    return ONE_TABLE + b"".join(rows + mark(0, number + 1, writes) for number in range(count)) + end(count)
+    return ONE_TABLE + b"".join(rows + mark(0, number + 1, writes)
+                                for number in range(count)) + end(count)
 
 
 def script(count, line):
@@ -32,11 +35,14 @@ def script(count, line):
 def main():
     txn = each("apply", lambda count: log(count, 0), 30_000, 60_000, 1)
     write = each("apply", lambda count: log(count, 100), 800, 2_400, 100)
-    print(f"apply: beside the log's own bytes, about {txn:.0f} bytes for a transaction and {write:.0f} for a write of it")
-    need = each("primary", lambda count: script(count, lambda number: b"need t a 0 ge 1\n"), 400, 900, 255)
-    put = each("primary", lambda count: script(count, lambda number: b"put t %07d 1\n" % number), 400, 900, 255)
-    print(f"primary: beside the script's own bytes, about {need:.0f} bytes for a statement, and {put - need:.0f} more for one that writes, "
-          "which has 23 in the log")
+    print(f"apply: beside the log's own bytes, about {txn:.0f} bytes for a transaction and "
+          f"{write:.0f} for a write of it")
+    need = each("primary", lambda count: script(count, lambda number: b"need t a 0 ge 1\n"), 400,
+                900, 255)
+    put = each("primary", lambda count: script(count, lambda number: b"put t %07d 1\n" % number),
+               400, 900, 255)
+    print(f"primary: beside the script's own bytes, about {need:.0f} bytes for a statement, "
+          f"and {put - need:.0f} more for one that writes, which has 23 in the log")
 
 
 sys.exit(main())

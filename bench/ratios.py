@@ -1,6 +1,6 @@
-"""Times runs of `c5` beside others that do the same work or a part of it, and prints the ratios, each with the most
-that it is to be: `python3 bench/ratios.py FOLDER [PART ..]`. The runs of a ratio take turns, and the best of several
-counts. Then it prints peaks of memory, of the program alone."""
+"""Times runs of `c5` beside others that do the same work or a part of it, and prints the ratios,
+each with the most that it is to be: `python3 bench/ratios.py FOLDER [PART ..]`. The runs of a ratio
+take turns, and the best of several counts. Then it prints peaks of memory, of the program alone."""
 import os
 import subprocess
 import sys
@@ -36,7 +36,8 @@ class Folder:
         def make(out):
             once_to([PROGRAM, "primary"], self.file(f"{name}.c5s"), out)
 
-        return self.file(f"{name}.log") if self.is_log(name) else self.made(f"{name}.primary.log", make)
+        return self.file(f"{name}.log") if self.is_log(name) else self.made(f"{name}.primary.log",
+            make)
 
     def is_log(self, name):
         return os.path.exists(self.file(f"{name}.log"))
@@ -46,13 +47,15 @@ class Folder:
         def make(out):
             with open(self.log(name), "rb") as log:
                 data = log.read()
-            out.write((tables_of(data) if self.is_log(name) else front_of(self.file(f"{name}.c5s"))) + b"log\n" + data)
+            out.write((tables_of(data) if self.is_log(name)
+                       else front_of(self.file(f"{name}.c5s"))) + b"log\n" + data)
 
         return self.made(f"{name}.backup", make)
 
 
 LOGS = {"longest": "the longest log", "few_rows": "few rows", "many_rows": "many rows"}
-SCRIPTS = {"transfers": "transfers", "many_puts": "many rows", "texts": "texts", "one_row": "one row"}
+SCRIPTS = {"transfers": "transfers", "many_puts": "many rows", "texts": "texts",
+           "one_row": "one row"}
 
 
 def once_to(command, path, out):
@@ -64,7 +67,8 @@ def tables_of(data):
     log = reference.Log(data)
     log.read_header()
     kinds = {reference.INT: b"int", reference.TEXTS: b"text"}
-    return b"".join(b" ".join([b"table", name, *(kinds[kind] for kind in types)]) + b"\n" for name, types in log.tables)
+    return b"".join(b" ".join([b"table", name, *(kinds[kind] for kind in types)]) + b"\n"
+                    for name, types in log.tables)
 
 
 # The lines of a script that aren't in a transaction or a schedule.
@@ -88,7 +92,8 @@ def words_of(run):
 
 # The best times of some runs, each (words, input), in ms.
 def best(runs):
-    times = [[once([PROGRAM, *words], path, LARGE_PAGES)[0] for words, path in runs] for _ in range(RUNS)]
+    times = [[once([PROGRAM, *words], path, LARGE_PAGES)[0] for words, path in runs]
+             for _ in range(RUNS)]
     return [min(row[n] for row in times) * 1000 for n in range(len(runs))]
 
 
@@ -103,7 +108,8 @@ def ratio(what, most, run, *others):
 
 def most_memory(what, most, run):
     value = peak([PROGRAM, *run[0]], run[1], LARGE_PAGES)
-    print(f"{value:4.0f} MB of at most {most:.0f}{' OVER' if value > most else ''}: {words_of(run)}: {what}", flush=True)
+    print(f"{value:4.0f} MB of at most {most:.0f}{' OVER' if value > most else ''}: "
+          f"{words_of(run)}: {what}", flush=True)
 
 
 # ---- what is compared
@@ -112,38 +118,47 @@ def replay(folder):
     for name, what in LOGS.items():
         with_front = folder.backup(name)
         ratio(what, 2, (["backup", "--workers", "1"], with_front), (["apply"], folder.log(name)))
-        ratio(what, 1.5 if name == "longest" else 3, (["backup", "--workers", "4"], with_front), (["backup", "--workers", "1"], with_front))
+        ratio(what, 1.5 if name == "longest" else 3, (["backup", "--workers", "4"], with_front),
+              (["backup", "--workers", "1"], with_front))
     for name in LOGS:
         size = os.path.getsize(folder.log(name)) / 1e6
-        most_memory(f"{LOGS[name]}, of {size:.0f} MB", 3 * size + 40, (["backup", "--workers", "4"], folder.backup(name)))
+        most_memory(f"{LOGS[name]}, of {size:.0f} MB", 3 * size + 40,
+                    (["backup", "--workers", "4"], folder.backup(name)))
 
 
 # A backup keeps up if it replays a log in no more time than the primary took to make it.
 def keeps_up(folder):
     for name, what in SCRIPTS.items():
         for workers in "124":
-            ratio(what, 1, (["backup", "--workers", workers], folder.backup(name)), (["primary"], folder.file(f"{name}.c5s")))
+            ratio(what, 1, (["backup", "--workers", workers], folder.backup(name)),
+                  (["primary"], folder.file(f"{name}.c5s")))
 
 
 def clone(folder):
     for name, what in SCRIPTS.items():
         script = folder.file(f"{name}.c5s")
-        ratio(what, 1.3, (["clone"], script), (["primary"], script), (["backup"], folder.backup(name)))
+        ratio(what, 1.3, (["clone"], script), (["primary"], script),
+              (["backup"], folder.backup(name)))
 
 
 # Several threads take turns at one order book, so more of them are no faster.
 def threads(folder):
-    for name, what in {**SCRIPTS, "own_rows": "a row of its own each", "small": "small transactions"}.items():
+    for name, what in {**SCRIPTS, "own_rows": "a row of its own each",
+                       "small": "small transactions"}.items():
         script = folder.file(f"{name}.c5s")
         for count in "24":
-            ratio(what, 4, (["primary", "--threads", count], script), (["primary", "--threads", "1"], script))
-        most_memory(what, 100 * os.path.getsize(script) / 1e6, (["primary", "--threads", "4"], script))
+            ratio(what, 4, (["primary", "--threads", count], script),
+                  (["primary", "--threads", "1"], script))
+        most_memory(what, 100 * os.path.getsize(script) / 1e6,
+                    (["primary", "--threads", "4"], script))
 
 
-# `gen` beside the commands that do the same of its script as a text; a text of 65,536 transactions would be too long.
+# `gen` beside the commands that do the same of its script as a text; a text of 65,536 transactions
+# would be too long.
 def gen(folder):
     script, none = folder.file("generated.c5s"), os.devnull
-    ratio(f"{GENERATED:,} generated transactions", 1.5, (["gen", "--count", str(GENERATED), "--workers", "1"], none),
+    ratio(f"{GENERATED:,} generated transactions", 1.5,
+          (["gen", "--count", str(GENERATED), "--workers", "1"], none),
           (["primary"], script), (["backup", "--workers", "1"], folder.backup("generated")))
     most = ["gen", "--count", str(TRANSACTIONS), "--workers"]
     ratio(f"{TRANSACTIONS:,} generated transactions", 2, ([*most, "4"], none), ([*most, "1"], none))
@@ -153,7 +168,8 @@ def gen(folder):
 # A schedule of as many words as a script may have, over as many transactions.
 def turns(folder):
     script = folder.file("schedule.c5s")
-    ratio("65,536 words over 65,536 transactions", 2, (["turns", "--workers", "4"], script), (["clone", "--workers", "4"], script))
+    ratio("65,536 words over 65,536 transactions", 2, (["turns", "--workers", "4"], script),
+          (["clone", "--workers", "4"], script))
 
 
 # The worst names for a board's index. What they may cost isn't limited.

@@ -1,5 +1,6 @@
 #!/bin/sh
-# Prints how long the program takes that makes a row of 65,536 versions and finds one for each of 65,536 stamps.
+# Prints how long the program takes that makes a row of 65,536 versions and finds one for each of
+# 65,536 stamps.
 set -eu
 top=$(cd "$(dirname "$0")/.." && pwd)
 program="$top/crates/bench_versions/out/bench_versions"

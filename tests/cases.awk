@@ -19,10 +19,11 @@
 #   => STATUS             what follows is the output; empty lines before the next case are no part of it
 #   => STATUS size N      the output has N bytes
 #
-# A byte is printed as an octal escape of printf, and a line that is repeated as `part N LINES ESCAPES`.
+# A byte is printed as an octal escape of printf, and a line that is repeated as `part N LINES
+# ESCAPES`.
 
 # The escapes of a line in hexadecimal.
-function bytes_of(line,    words, n, i, one, out, times) {
+function bytes_of(line,    words, n, i, high, one, out, times) {
     sub(/#.*/, "", line)
     n = split(line, words, " ")
     out = ""
@@ -38,7 +39,8 @@ function bytes_of(line,    words, n, i, one, out, times) {
             wrong("no byte in hexadecimal: " words[i])
             continue
         }
-        one = octal((index(DIGITS, substr(words[i], 1, 1)) - 1) * 16 + index(DIGITS, substr(words[i], 2, 1)) - 1)
+        high = index(DIGITS, substr(words[i], 1, 1)) - 1
+        one = octal(high * 16 + index(DIGITS, substr(words[i], 2, 1)) - 1)
         for (; times > 0; times--) out = out one
     }
     return out
@@ -114,7 +116,13 @@ state == "input" && /^=> / {
 state == "input" && /^@hex / { add(bytes_of(substr($0, 6))); next }
 state == "input" && input == "hex" { add(bytes_of($0)); next }
 state == "input" && /^@times / { flush(); times = $2; block = 1; lines = 0; next }
-state == "input" && /^@done/ { line = once; once = ""; add_times(times, lines, line); block = 0; next }
+state == "input" && /^@done/ {
+    line = once
+    once = ""
+    add_times(times, lines, line)
+    block = 0
+    next
+}
 state == "input" && /^\*[0-9]+/ {
     n = substr($1, 2) + 0
     line = $0

@@ -1,9 +1,9 @@
-"""Runs the built program and the second implementation (reference.py) on inputs made from a seed, most of them
-faulty, and prints how many answers agree: `python3 tests/compare.py [COUNT [SEED]]`.
+"""Runs the built program and the second implementation (reference.py) on inputs made from a seed,
+most of them faulty, and prints how many answers agree: `python3 tests/compare.py [COUNT [SEED]]`.
 
-It also fails if the inputs of its seed never give some kind of fault or some status, or if they wouldn't notice a
-changed order of two tests: for each pair of tests that one item of a log or one line of a script can fail both, some
-input must do so."""
+It also fails if the inputs of its seed never give some kind of fault or some status, or if they
+wouldn't notice a changed order of two tests: for each pair of tests that one item of a log or one
+line of a script can fail both, some input must do so."""
 import collections
 import glob
 import os
@@ -17,26 +17,39 @@ import reference
 TOP = os.path.dirname(os.path.dirname(os.path.abspath(__file__)))
 PROGRAM = os.path.join(TOP, "crates", "c5", "out", "c5")
 
-LOG_KINDS = ["magic", "header", "length", "kind", "table", "key", "cell", "order", "stamp", "count", "end", "cut", "after"]
-SCRIPT_KINDS = ["byte", "quote", "word", "limit", "count", "name", "table", "key", "column", "type", "number", "unclosed"]
+LOG_KINDS = ["magic", "header", "length", "kind", "table", "key", "cell", "order", "stamp",
+             "count", "end", "cut", "after"]
+SCRIPT_KINDS = ["byte", "quote", "word", "limit", "count", "name", "table", "key", "column",
+                "type", "number", "unclosed"]
 LIMIT_LINES = ["transactions", "writes", "rows"]
 ANSWERS = ([("apply", "ok"), ("primary", "ok"), ("apply", "too long"), ("primary", "too long")]
-           + [("apply", f"bad log {kind}") for kind in LOG_KINDS] + [("primary", f"bad script {kind}") for kind in SCRIPT_KINDS]
+           + [("apply", f"bad log {kind}") for kind in LOG_KINDS]
+           + [("primary", f"bad script {kind}") for kind in SCRIPT_KINDS]
            + [("primary", f"limit {line}") for line in LIMIT_LINES]
-           + [(command, f"{what} fails") for command in ("apply", "primary", "backup", "clone") for what in ("read", "write")]
-           + [("words", "bad words"), ("clone", "ok"), ("clone", "too long"), ("backup", "ok"), ("backup", "too long")]
-           + [("clone", f"bad script {kind}") for kind in SCRIPT_KINDS] + [("backup", f"bad script {kind}") for kind in SCRIPT_KINDS]
-           + [("backup", f"bad log {kind}") for kind in LOG_KINDS] + [("clone", f"limit {line}") for line in LIMIT_LINES]
+           + [(command, f"{what} fails") for command in ("apply", "primary", "backup", "clone")
+              for what in ("read", "write")]
+           + [("words", "bad words"), ("clone", "ok"), ("clone", "too long"), ("backup", "ok"),
+              ("backup", "too long")]
+           + [("clone", f"bad script {kind}") for kind in SCRIPT_KINDS]
+           + [("backup", f"bad script {kind}") for kind in SCRIPT_KINDS]
+           + [("backup", f"bad log {kind}") for kind in LOG_KINDS]
+           + [("clone", f"limit {line}") for line in LIMIT_LINES]
            + [("backup", f"limit {line}") for line in LIMIT_LINES])
 
 # Pairs of tests that one item or line can fail both, the one that comes first first.
-FRAME_PAIRS = [("length", "cut"), ("length", "kind"), ("table", "key"), ("table", "cell"), ("key", "cell"), ("key", "order"),
+FRAME_PAIRS = [("length", "cut"), ("length", "kind"), ("table", "key"), ("table", "cell"),
+               ("key", "cell"), ("key", "order"),
                ("cell", "order"), ("stamp", "count"), ("end", "after")]
-FRAME_PAIRS += [("cut", later) for later in ("magic", "header", "kind", "size", "table", "key", "cell", "order", "stamp", "count", "end")]
-LINE_PAIRS = [("byte", "quote"), ("byte", "word"), ("byte", "limit"), ("byte", "count"), ("byte", "K"), ("quote", "word"),
-              ("quote", "limit"), ("quote", "count"), ("quote", "N"), ("word", "limit"), ("word", "count"), ("word", "T"),
-              ("limit", "count"), ("limit", "T"), ("limit", "TYPE"), ("count", "T"), ("count", "K"), ("count", "N"), ("count", "SESSION"),
-              ("NAME", "TYPE"), ("T", "K"), ("T", "N"), ("K", "CELLS"), ("K", "CELL"), ("CELLS", "CELL"), ("K", "COL"),
+FRAME_PAIRS += [("cut", later) for later in ("magic", "header", "kind", "size", "table", "key",
+                                             "cell", "order", "stamp", "count", "end")]
+LINE_PAIRS = [("byte", "quote"), ("byte", "word"), ("byte", "limit"), ("byte", "count"),
+              ("byte", "K"), ("quote", "word"),
+              ("quote", "limit"), ("quote", "count"), ("quote", "N"), ("word", "limit"),
+              ("word", "count"), ("word", "T"),
+              ("limit", "count"), ("limit", "T"), ("limit", "TYPE"), ("count", "T"),
+              ("count", "K"), ("count", "N"), ("count", "SESSION"),
+              ("NAME", "TYPE"), ("T", "K"), ("T", "N"), ("K", "CELLS"), ("K", "CELL"),
+              ("CELLS", "CELL"), ("K", "COL"),
               ("K", "N"), ("COL", "REL"), ("COL", "N"), ("COL", "K"), ("REL", "N")]
 PAIRS = [("apply", pair) for pair in FRAME_PAIRS] + [("primary", pair) for pair in LINE_PAIRS]
 
@@ -45,19 +58,23 @@ PAIRS = [("apply", pair) for pair in FRAME_PAIRS] + [("primary", pair) for pair 
 
 def random_tables(rand):
     names = rand.sample(["acct", "t", "b_1", "x" * 16, "rows", "log"], rand.randint(1, 3))
-    return [(name.encode(), tuple(rand.choice((1, 2)) for _ in range(rand.randint(1, rand.choice((2, 8)))))) for name in names]
+    return [(name.encode(), tuple(rand.choice((1, 2)) for _ in range(rand.randint(1,
+        rand.choice((2, 8)))))) for name in names]
 
 
 def random_row(rand, types):
     return tuple(rand.choice((0, 7, -5, reference.MOST, reference.LEAST)) if cell == 1
-                 else bytes(rand.choice(b"ab z") for _ in range(rand.choice((0, 1, 5, 32)))) for cell in types)
+                 else bytes(rand.choice(b"ab z") for _ in range(rand.choice((0, 1, 5, 32))))
+                 for cell in types)
 
 
 def random_log(rand):
     tables, txns, stamp = random_tables(rand), [], 0
     for _ in range(rand.randint(0, 4)):
-        names = {(rand.randrange(len(tables)), rand.choice((b"a", b"b", b"ab", b"~", b"k" * 32))) for _ in range(rand.randint(0, 4))}
-        writes = [(name, rand.choice((None, random_row(rand, tables[name[0]][1])))) for name in sorted(names)]
+        names = {(rand.randrange(len(tables)), rand.choice((b"a", b"b", b"ab", b"~", b"k" * 32)))
+                 for _ in range(rand.randint(0, 4))}
+        writes = [(name, rand.choice((None, random_row(rand, tables[name[0]][1]))))
+                  for name in sorted(names)]
         stamp += rand.choice((1, 1, 5, 1 << 40))
         txns.append((rand.randrange(1 << 32), stamp, writes))
     return bytearray(reference.spelled(tables, txns))
@@ -77,7 +94,8 @@ def pieces(data):
 
 def change_number(rand, payload, at, size):
     number = int.from_bytes(payload[at:at + size], "big")
-    changed = rand.choice((0, number + 1, number - 1, number * 2, (1 << 8 * size) - 1)) % (1 << 8 * size)
+    changed = rand.choice((0, number + 1, number - 1, number * 2, (1 << 8 * size) - 1)) % (
+        1 << 8 * size)
     payload[at:at + size] = changed.to_bytes(size, "big")
 
 
@@ -88,7 +106,8 @@ def change_write(rand, payload):
     elif what == 1:
         payload[2] = rand.choice((0, 33, 255, (payload[2] + 1) % 256, (payload[2] - 1) % 256))
     elif what == 2 and payload[2]:
-        payload[3 + rand.randrange(payload[2]) % (len(payload) - 3)] = rand.choice((0x20, 0x22, 0x7F, 0))
+        payload[3 + rand.randrange(payload[2]) % (len(payload) - 3)] = rand.choice(
+            (0x20, 0x22, 0x7F, 0))
     elif what == 3:
         at = min(3 + payload[2], len(payload) - 1)
         payload[at] = rand.choice((2, 0, 1, 255))
@@ -164,10 +183,12 @@ def log_input(rand):
 # ---- scripts
 
 NUMBERS = ["0", "1", "-1", "10", "-0", "007", "9223372036854775807", "-9223372036854775808"]
-BAD_NUMBERS = ["9223372036854775808", "-9223372036854775809", "00000000000000000005", "+1", "1x", "-", '"1"', "99999999999999999999", "x"]
+BAD_NUMBERS = ["9223372036854775808", "-9223372036854775809", "00000000000000000005", "+1", "1x",
+               "-", '"1"', "99999999999999999999", "x"]
 TEXTS = ['""', '"x"', '"hello world"', '"' + "a" * 32 + '"']
 # What a word becomes when it is spoilt.
-SPOILT = ["frob", '"a"', '"a"', "x" * 33, "x" * 33, "9", "00", "17", "-", "1x", '"' + "a" * 33 + '"', "ne", "A", "9223372036854775808", "w01", "s17", "real", "17"]
+SPOILT = ["frob", '"a"', '"a"', "x" * 33, "x" * 33, "9", "00", "17", "-", "1x",
+          '"' + "a" * 33 + '"', "ne", "A", "9223372036854775808", "w01", "s17", "real", "17"]
 
 
 def cell_of(rand, kind):
@@ -179,10 +200,12 @@ def statement_of(rand, tables):
     types = tables[name]
     ints = [str(n) for n, kind in enumerate(types) if kind == "int"]
     key, other = rand.choice(["a", "b", "ab", "k" * 32]), rand.choice(["a", "b", "c"])
-    forms = [["put", name, key, *(cell_of(rand, kind) for kind in types)]] * 2 + [["del", name, key], ["copy", name, key, other]]
+    forms = [["put", name, key, *(cell_of(rand, kind) for kind in types)]] * 2 + [
+        ["del", name, key], ["copy", name, key, other]]
     if ints:
         col, n = rand.choice(ints), rand.choice(NUMBERS)
-        forms += [["need", name, key, col, rand.choice(["lt", "le", "eq", "ge", "gt"]), n], ["add", name, key, col, n]]
+        forms += [["need", name, key, col, rand.choice(["lt", "le", "eq", "ge", "gt"]), n],
+                  ["add", name, key, col, n]]
     return rand.choice(forms)
 
 
@@ -190,20 +213,25 @@ def question_of(rand, tables):
     name = rand.choice(list(tables))
     ints = [str(n) for n, kind in enumerate(tables[name]) if kind == "int"]
     keys = [rand.choice(["a", "b", "ab"]) for _ in range(rand.choice((1, 2, 16)))]
-    return ["sum", name, rand.choice(ints), *keys] if ints and rand.random() < 0.5 else ["row", name, keys[0]]
+    return ["sum", name, rand.choice(ints), *keys] if ints and rand.random() < 0.5 else ["row",
+        name, keys[0]]
 
 
 def script_lines(rand):
-    tables = {name: [rand.choice(("int", "int", "text")) for _ in range(rand.choice((1, 1, 2, 8)))] for name in ["acct", "t"][:rand.choice((1, 1, 2))]}
+    tables = {name: [rand.choice(("int", "int", "text")) for _ in range(rand.choice((1, 1, 2, 8)))]
+              for name in ["acct", "t"][:rand.choice((1, 1, 2))]}
     lines = [["table", name, *types] for name, types in tables.items()]
     for _ in range(rand.choice((1, 2, 6, 15))):
         what = rand.random()
         if what < 0.6:
-            lines += [["txn"], *(statement_of(rand, tables) for _ in range(rand.choice((0, 1, 2, 5)))), ["end"]]
+            lines += [["txn"], *(statement_of(rand, tables)
+                                 for _ in range(rand.choice((0, 1, 2, 5)))), ["end"]]
         elif what < 0.85:
-            lines += [["read", rand.choice(["1", "16", "007"])], *(question_of(rand, tables) for _ in range(rand.choice((1, 2, 16)))), ["end"]]
+            lines += [["read", rand.choice(["1", "16", "007"])],
+                      *(question_of(rand, tables) for _ in range(rand.choice((1, 2, 16)))), ["end"]]
         else:
-            lines.append(["turns", *(rand.choice(["w1", "w16", "v", "s1", "s12"]) for _ in range(rand.choice((1, 3))))])
+            lines.append(["turns", *(rand.choice(["w1", "w16", "v", "s1", "s12"])
+                                     for _ in range(rand.choice((1, 3))))])
     return lines
 
 
@@ -220,7 +248,8 @@ def spoil(rand, words):
     elif what == 8:
         words[-1] = rand.choice(['"open', 'a"b', '"x"y'])
     else:
-        words[0] = rand.choice(["table", "txn", "put", "del", "need", "add", "copy", "read", "row", "sum", "end", "turns", "log", "frob", '"txn"'])
+        words[0] = rand.choice(["table", "txn", "put", "del", "need", "add", "copy", "read", "row",
+                                "sum", "end", "turns", "log", "frob", '"txn"'])
 
 
 # Makes some words after the first one wrong, and mostly keeps their number.
@@ -262,7 +291,8 @@ def line_input(rand):
     tables = {"acct": ["int", "text", "int"], "t": ["int"]}
     inside = rand.choice(("txn", "txn", "txn", "read 1", ""))
     line = {"txn": lambda: statement_of(rand, tables), "read 1": lambda: question_of(rand, tables),
-            "": lambda: rand.choice([["table", "u", "int", "text"], ["read", "1"], ["turns", "w1", "v", "s1"]])}[inside]()
+            "": lambda: rand.choice([["table", "u", "int", "text"], ["read", "1"],
+                                     ["turns", "w1", "v", "s1"]])}[inside]()
     rand.choice((spoil_places, spoil_places, spoil))(rand, line)
     if rand.random() < 0.3:
         spoil(rand, line)
@@ -296,31 +326,38 @@ def wide_script(rand):
         rand.choice((keys.sort, lambda: keys.sort(reverse=True), lambda: None))()
         lines.append("txn")
         for key in keys:
-            lines += rand.choice(([f"put t k{key:03d} {rand.randrange(-5, 100)} 1"], [f'put u k{key:03d} "x" {key}'],
-                                  [f"put t k{key:03d} 5 5", f"add t k{key:03d} 1 2"], [f"copy u k{key:03d} k{rand.randrange(400):03d}"],
+            lines += rand.choice(([f"put t k{key:03d} {rand.randrange(-5, 100)} 1"],
+                                  [f'put u k{key:03d} "x" {key}'],
+                                  [f"put t k{key:03d} 5 5", f"add t k{key:03d} 1 2"],
+                                  [f"copy u k{key:03d} k{rand.randrange(400):03d}"],
                                   [f"del {rand.choice('tu')} k{key:03d}"]))
         lines.append("end")
     return ("\n".join(lines) + "\n").encode()
 
 
-# A script whose transactions read and write few rows, so that they conflict if they run at the same time.
+# A script whose transactions read and write few rows, so that they conflict if they run at the same
+# time.
 def contended(rand):
     keys = [f"k{number}" for number in range(rand.choice((1, 2, 6)))]
     lines = ["table t int"]
     for number in range(rand.choice((20, 100, 300))):
         key, other = rand.choice(keys), rand.choice(keys)
-        lines += ["txn", *rand.choice(([f"put t {key} {number}"], [f"copy t {key} {other}"], [f"del t {key}", f"copy t {other} {key}"],
-                                       [f"need t {key} 0 ge {number % 7}", f"add t {key} 0 -1", f"add t {other} 0 1"],
+        lines += ["txn", *rand.choice(([f"put t {key} {number}"], [f"copy t {key} {other}"],
+                                       [f"del t {key}", f"copy t {other} {key}"],
+                                       [f"need t {key} 0 ge {number % 7}", f"add t {key} 0 -1",
+                                        f"add t {other} 0 1"],
                                        [f"add t {key} 0 1", f"put t own{number} {number}"])), "end"]
     for number in range(6):
-        lines += [f"read {rand.randint(1, 3)}", f"row t {rand.choice(keys)}", f"sum t 0 {' '.join(keys)}", "end"]
+        lines += [f"read {rand.randint(1, 3)}", f"row t {rand.choice(keys)}",
+                  f"sum t 0 {' '.join(keys)}", "end"]
     return "\n".join(lines).encode()
 
 
 # The front of a script, a `log` line and a log, mostly one with the tables of the script.
 def backup_input(rand):
     lines = [words for words in script_lines(rand) if words[0] != "turns"]
-    front = "\n".join(" ".join(words) for words in lines) + "\n" + rand.choice(("log\n", "log\n", "log\n", " log \n", "log", ""))
+    front = "\n".join(" ".join(words) for words in lines) + "\n" + rand.choice(("log\n", "log\n",
+        "log\n", " log \n", "log", ""))
     if rand.random() < 0.2:
         return front.encode() + log_input(rand)
     if rand.random() < 0.05:
@@ -329,7 +366,8 @@ def backup_input(rand):
         script, _ = reference.read_script(front.encode(), front=True)
     except reference.Refused:
         return front.encode() + bytes(random_log(rand))
-    log = bytearray(reference.spelled(meaning.names_and_types(script), reference.run_serial(script)))
+    log = bytearray(reference.spelled(meaning.names_and_types(script),
+                                      reference.run_serial(script)))
     what = rand.random()
     if what < 0.1:
         log[rand.randrange(len(log))] ^= 1
@@ -351,7 +389,8 @@ def backup_of_log(rand):
 
 # A front of which one line is of any form and spoilt, and a log.
 def backup_of_line(rand):
-    return rand.choice([line_input] * 6 + [script_input] * 3 + [limit_input])(rand) + b"\nlog\n" + bytes(random_log(rand))
+    return rand.choice([line_input] * 6 + [script_input] * 3
+                       + [limit_input])(rand) + b"\nlog\n" + bytes(random_log(rand))
 
 
 # The scripts of examples/: (name, input).
@@ -366,20 +405,29 @@ def large_inputs():
     acct = [(b"acct", (1,))]
     writes = [((0, b"%07d" % number), (number,)) for number in range(262_144)]
     yield "apply", "262144 writes in one transaction", reference.spelled(acct, [(0, 1, writes)])
-    yield "apply", "65536 transactions without writes", reference.spelled(acct, [(0, number + 1, []) for number in range(65_536)])
-    yield "apply", "65537 transactions without writes", reference.spelled(acct, [(0, number + 1, []) for number in range(65_537)])
-    yield "apply", "65536 puts of ascending keys", reference.spelled(acct, [(0, 1, writes[:65_536])])
-    yield "apply", "65537 puts of ascending keys", reference.spelled(acct, [(0, 1, writes[:65_537])])
+    yield "apply", "65536 transactions without writes", reference.spelled(acct,
+        [(0, number + 1, []) for number in range(65_536)])
+    yield "apply", "65537 transactions without writes", reference.spelled(acct,
+        [(0, number + 1, []) for number in range(65_537)])
+    yield "apply", "65536 puts of ascending keys", reference.spelled(acct,
+        [(0, 1, writes[:65_536])])
+    yield "apply", "65537 puts of ascending keys", reference.spelled(acct,
+        [(0, 1, writes[:65_537])])
     for count in (262_144, 262_145):
         yield "apply", f"{count} writes of eight rows", reference.spelled(
-            acct, [(0, number + 1, writes[:min(8, count - 8 * number)]) for number in range((count + 7) // 8)])
+            acct, [(0, number + 1, writes[:min(8, count - 8 * number)])
+                   for number in range((count + 7) // 8)])
     yield "apply", "a byte too many", bytes(reference.LIMITS["apply"] + 1)
     yield "primary", "a byte too many", b"\n" * (reference.LIMITS["primary"] + 1)
-    yield "primary", "a line of 4 million bytes", b"table acct int\ntxn\n" + b"x " * 2_000_000 + b"\nend\n"
-    yield "primary", "a text of 4 million bytes", b"table t text\ntxn\nput t k \"" + b"x" * 4_000_000 + b"\"\nend\n"
+    yield ("primary", "a line of 4 million bytes",
+           b"table acct int\ntxn\n" + b"x " * 2_000_000 + b"\nend\n")
+    yield ("primary", "a text of 4 million bytes",
+           b"table t text\ntxn\nput t k \"" + b"x" * 4_000_000 + b"\"\nend\n")
     yield "primary", "65537 transactions", b"table acct int\n" + b"txn\nend\n" * 65_537
-    yield "primary", "262145 writes", b"table acct int\n" + (b"txn\n" + b"del acct a\n" * 256 + b"end\n") * 1024 + b"txn\ndel acct a\nend\n"
-    rows = b"".join(b"txn\n" + b"".join(b"del t %d\n" % (block * 256 + n) for n in range(256)) + b"end\n" for block in range(256))
+    yield "primary", "262145 writes", b"table acct int\n" + (b"txn\n" + b"del acct a\n" * 256
+        + b"end\n") * 1024 + b"txn\ndel acct a\nend\n"
+    rows = b"".join(b"txn\n" + b"".join(b"del t %d\n" % (block * 256 + n) for n in range(256))
+                    + b"end\n" for block in range(256))
     yield "primary", "65536 rows", b"table t int\n" + rows
     yield "primary", "65537 rows", b"table t int\n" + rows + b"txn\ndel t 65536\nend\n"
 
@@ -408,21 +456,28 @@ class Comparison:
 
     def run(self, words, name, data, status, printed, **streams):
         how = {"input": data} if "stdin" not in streams else {}
-        ran = subprocess.run([PROGRAM, *words], stdout=streams.get("stdout", subprocess.PIPE), stderr=subprocess.DEVNULL,
-                             **how, **{key: value for key, value in streams.items() if key != "stdout"})
+        ran = subprocess.run([PROGRAM, *words], stdout=streams.get("stdout", subprocess.PIPE),
+                             stderr=subprocess.DEVNULL,
+                             **how, **{key: value for key, value in streams.items()
+                                       if key != "stdout"})
         got = (ran.returncode, ran.stdout or b"")
-        self.count(got == (status, printed), f"{' '.join(words)} on {name[:2000]}: {got[0]} {got[1][:200]!r}, not {status} {printed[:200]!r}")
+        self.count(got == (status, printed),
+            f"{' '.join(words)} on {name[:2000]}: {got[0]} {got[1][:200]!r}, "
+            f"not {status} {printed[:200]!r}")
 
     # A command whose answer isn't one text: it is right by what it means.
     def compare_meaning(self, rand, command, data, name=None):
         words = [command]
-        for option in {"primary": ["--threads"], "backup": ["--workers"], "clone": ["--threads", "--workers"]}[command]:
+        for option in {"primary": ["--threads"], "backup": ["--workers"],
+                       "clone": ["--threads", "--workers"]}[command]:
             words += [option, str(rand.choice((1, 2, 4, 16)))]
-        ran = subprocess.run([PROGRAM, *words], input=data, stdout=subprocess.PIPE, stderr=subprocess.DEVNULL)
+        ran = subprocess.run([PROGRAM, *words], input=data, stdout=subprocess.PIPE,
+                             stderr=subprocess.DEVNULL)
         why = meaning.wrong(command, data, ran.returncode, ran.stdout)
         if why is None:
             self.answers[command, answer_name(ran.returncode, ran.stdout)] += 1
-            self.mixed += ran.returncode == 0 and command != "backup" and not meaning.is_script_order(command, ran.stdout)
+            self.mixed += (ran.returncode == 0 and command != "backup"
+                           and not meaning.is_script_order(command, ran.stdout))
         self.count(why is None, f"{' '.join(words)} on {name or repr(data[:2000])}: {why}")
 
     # Words that are no command, an input that can't be read, and an output that can't be written.
@@ -431,7 +486,8 @@ class Comparison:
         for words in ([], ["frob"], ["apply", "primary"], ["Apply"], [""], ["apply "]):
             self.answers["words", "bad words"] += 1
             self.run(words, repr(words), b"", 2, b"bad words\n")
-        for command, data in (("apply", log), ("primary", script), ("backup", script + b"log\n" + log), ("clone", script)):
+        for command, data in (("apply", log), ("primary", script),
+                              ("backup", script + b"log\n" + log), ("clone", script)):
             self.compare_streams_of(command, data)
 
     def compare_streams_of(self, command, data):
@@ -443,16 +499,20 @@ class Comparison:
             self.answers[command, "write fails"] += 1
             self.run([command], "a full device", data, 6, b"", stdout=full)
 
-    # Prints the counts, also of runs in another order than the script's (which threads may give, and need not), and of what is wanted of the seed and never came.
+    # Prints the counts, also of runs in another order than the script's (which threads may give,
+    # and need not), and of what is wanted of the seed and never came.
     def finish(self, answers, pairs=()):
-        names = collections.Counter({f"{command}: {what}": n for (command, what), n in self.answers.items()})
+        names = collections.Counter({f"{command}: {what}": n
+                                     for (command, what), n in self.answers.items()})
         print("answers:", ", ".join(f"{name} {n}" for name, n in sorted(names.items())))
         if self.mixed:
             print(f"{self.mixed} runs on threads were in another order than the script's")
         for wanted in answers:
-            self.count(self.answers[wanted], f"no input of this seed gives the answer {' '.join(wanted)}")
+            self.count(self.answers[wanted],
+                       f"no input of this seed gives the answer {' '.join(wanted)}")
         for wanted in pairs:
-            self.count(self.pairs[wanted], f"no input of this seed fails both tests {wanted[1]} of {wanted[0]}")
+            self.count(self.pairs[wanted],
+                       f"no input of this seed fails both tests {wanted[1]} of {wanted[0]}")
         print(f"{self.passed} passed, {self.failed} failed")
         return self.failed == 0
 
@@ -460,7 +520,8 @@ class Comparison:
 def answer_name(status, printed):
     text = printed.decode("latin-1").split()
     last = text[-1] if text else ""
-    return {0: "ok", 3: f"bad script {last}", 4: f"bad log {last}", 8: "too long", 9: " ".join(text)}[status]
+    return {0: "ok", 3: f"bad script {last}", 4: f"bad log {last}", 8: "too long",
+            9: " ".join(text)}[status]
 
 
 def main():
@@ -498,7 +559,8 @@ def main():
         if command == "primary":
             comparison.compare_meaning(rand, "clone", data, name)
         else:
-            comparison.compare_meaning(rand, "backup", b"table acct int\nlog\n" + data, f"a table, a line log, {name}")
+            comparison.compare_meaning(rand, "backup", b"table acct int\nlog\n" + data,
+                                       f"a table, a line log, {name}")
     comparison.compare_streams()
     sys.exit(0 if comparison.finish(ANSWERS, PAIRS) else 1)
 

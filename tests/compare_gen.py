@@ -1,6 +1,7 @@
-"""Runs `gen` for many counts and numbers of workers, and compares each summary with two computations of its own: by the
-balances of the accounts alone, and by running the script with the second implementation (schedule.py). It prints how
-many agree: `python3 tests/compare_gen.py [COUNT]`, of the counts from 1 to COUNT."""
+"""Runs `gen` for many counts and numbers of workers, and compares each summary with two
+computations of its own: by the balances of the accounts alone, and by running the script with the
+second implementation (schedule.py). It prints how many agree: `python3 tests/compare_gen.py
+[COUNT]`, of the counts from 1 to COUNT."""
 import itertools
 import os
 import subprocess
@@ -10,7 +11,8 @@ import schedule
 from compare import PROGRAM, TOP
 
 WORKERS = [1, 2, 3, 4, 8, 16]
-# Counts that are also run with the second implementation, and the greatest, with which a summary by balances suffices.
+# Counts that are also run with the second implementation, and the greatest, with which a summary by
+# balances suffices.
 RUN_TOO = {1, 2, 3, 17, 64, 100, 200}
 MOST = 65_536
 
@@ -26,10 +28,12 @@ class Comparison:
             print(why)
 
     def compare(self, words, wanted, status=0, **streams):
-        streams = {"stdin": subprocess.DEVNULL, "stdout": subprocess.PIPE, "stderr": subprocess.DEVNULL, **streams}
+        streams = {"stdin": subprocess.DEVNULL, "stdout": subprocess.PIPE,
+                   "stderr": subprocess.DEVNULL, **streams}
         ran = subprocess.run([PROGRAM, "gen", *words], **streams)
         got = (ran.returncode, ran.stdout or b"")
-        self.count(got == (status, wanted), f"gen {' '.join(words)}: {got[0]} {got[1]!r}, not {status} {wanted!r}")
+        self.count(got == (status, wanted),
+                   f"gen {' '.join(words)}: {got[0]} {got[1]!r}, not {status} {wanted!r}")
 
 
 # A summary's numbers by their words; the replies' word is `reads`, and that of whole ones `whole`.
@@ -38,8 +42,9 @@ def numbers_of(summary):
     return dict(zip(words[::2], map(int, words[1::2])))
 
 
-# What is to hold of each summary, however it was computed: the bytes are those of the writes and the commit marks, each
-# transfer that isn't declined has two writes, no money is lost, and each read saw all of it or none.
+# What is to hold of each summary, however it was computed: the bytes are those of the writes and
+# the commit marks, each transfer that isn't declined has two writes, no money is lost, and each
+# read saw all of it or none.
 def is_sound(count, summary):
     n = numbers_of(summary)
     return (n["transactions"] == count and n["writes"] + 2 * n["declined"] == 64 + 2 * (count - 1)
@@ -53,10 +58,12 @@ def main():
     # The input isn't read, so it may be one that can't be.
     folder = os.open(TOP, os.O_RDONLY)
     for count, wanted in enumerate(itertools.islice(schedule.summaries(), most), 1):
-        comparison.count(is_sound(count, wanted), f"the summary of {count} transactions is {wanted!r}")
+        comparison.count(is_sound(count, wanted),
+                         f"the summary of {count} transactions is {wanted!r}")
         if count in RUN_TOO:
             by_run = schedule.summary_by_run(count)
-            comparison.count(wanted == by_run, f"the second implementation counts {by_run!r}, not {wanted!r}")
+            comparison.count(wanted == by_run,
+                             f"the second implementation counts {by_run!r}, not {wanted!r}")
         workers = WORKERS[count % len(WORKERS)]
         comparison.compare(["--count", str(count), "--workers", str(workers)], wanted, stdin=folder)
     os.close(folder)

@@ -1,8 +1,9 @@
-"""Runs `c5 turns` and a second implementation of its machine (schedule.py) on schedules made from a seed, and prints how
-many outputs are the same: `python3 tests/compare_turns.py [COUNT [SEED]]`.
+"""Runs `c5 turns` and a second implementation of its machine (schedule.py) on schedules made from a
+seed, and prints how many outputs are the same: `python3 tests/compare_turns.py [COUNT [SEED]]`.
 
-It also fails if the schedules of its seed never make the machine do something that it can do, or if they wouldn't notice
-a machine with one rule changed: for each of `CHANGED` some schedule must lead to other places or to another count."""
+It also fails if the schedules of its seed never make the machine do something that it can do, or if
+they wouldn't notice a machine with one rule changed: for each of `CHANGED` some schedule must lead
+to other places or to another count."""
 import random
 import sys
 
@@ -12,12 +13,17 @@ import reference
 import schedule
 
 WORKERS = [1, 2, 2, 3, 4, 7, 16]
-SEEN = ["a worker that isn't there", "a session without a read left", "a full list", "a write put off by a word", "a write put off in a closing round",
-        "a number that was put off, and the next one, in one turn", "an installed write that is not visible yet",
-        "a read between the first place and the last", "a read after the schedule", "no write installed by a word", "each write installed by a word",
+SEEN = ["a worker that isn't there", "a session without a read left", "a full list",
+        "a write put off by a word", "a write put off in a closing round",
+        "a number that was put off, and the next one, in one turn",
+        "an installed write that is not visible yet",
+        "a read between the first place and the last", "a read after the schedule",
+        "no write installed by a word", "each write installed by a word",
         "a transaction without writes"]
-REFUSALS = ["too long", "limit transactions", "limit writes", "limit rows"] + [f"bad script {kind}" for kind in compare.SCRIPT_KINDS]
-ANSWERS = [("turns", what) for what in ["ok", *REFUSALS]] + [("turns", "read fails"), ("turns", "write fails")]
+REFUSALS = ["too long", "limit transactions", "limit writes",
+            "limit rows"] + [f"bad script {kind}" for kind in compare.SCRIPT_KINDS]
+ANSWERS = [("turns", what) for what in ["ok", *REFUSALS]] + [("turns", "read fails"),
+    ("turns", "write fails")]
 
 
 # ---- machines with one rule changed
@@ -65,7 +71,8 @@ class NoList(schedule.Machine):
 
     def next_number(self, worker):
         number = self.next[worker]
-        return super().next_number(worker) if number > self.last or self.can_install(number) else ([], None)
+        return super().next_number(worker) if number > self.last or self.can_install(number) else (
+            [], None)
 
 
 class LongList(schedule.Machine):
@@ -143,7 +150,8 @@ class EarlyReads(schedule.Machine):
         return super().close()
 
 
-CHANGED = [NextFirst, Descending, OneAgain, BlockedByList, NoList, LongList, AnyWorker, HalfVisible, OwnedOnly, VisibleAtOnce, NoClosingCount, NoRound,
+CHANGED = [NextFirst, Descending, OneAgain, BlockedByList, NoList, LongList, AnyWorker,
+           HalfVisible, OwnedOnly, VisibleAtOnce, NoClosingCount, NoRound,
            EarlyReads]
 
 
@@ -151,7 +159,8 @@ CHANGED = [NextFirst, Descending, OneAgain, BlockedByList, NoList, LongList, Any
 
 def any_words(rand, workers, count):
     sessions = rand.sample(range(1, 17), rand.choice((1, 2, 4)))
-    return [rand.choice((f"w{rand.randint(1, min(16, workers + (rand.random() < 0.1)))}", f"w{rand.randint(1, workers)}", "v", f"s{rand.choice(sessions)}"))
+    return [rand.choice((f"w{rand.randint(1, min(16, workers + (rand.random() < 0.1)))}",
+                         f"w{rand.randint(1, workers)}", "v", f"s{rand.choice(sessions)}"))
             for _ in range(count)], sessions
 
 
@@ -159,7 +168,8 @@ def any_words(rand, workers, count):
 def bursts(rand, workers, count):
     sessions, words = rand.sample(range(1, 17), rand.choice((1, 2))), []
     while len(words) < count:
-        words += [f"w{rand.randint(1, workers)}"] * rand.choice((1, 5, 20)) + ["v", f"s{rand.choice(sessions)}"] * rand.choice((0, 1))
+        words += [f"w{rand.randint(1, workers)}"] * rand.choice((1, 5, 20)) + ["v",
+            f"s{rand.choice(sessions)}"] * rand.choice((0, 1))
     return words, sessions
 
 
@@ -176,14 +186,17 @@ def rounds(rand, workers, count):
 
 def body(rand, keys, number):
     key, other = rand.choice(keys), rand.choice(keys)
-    return rand.choice(([f"put t {key} {number}"], [f"put t {key} {number}", f"put t {other} {number}", f"put t own{number} 1"], [f"del t {key}"],
-                        [f"copy t {key} {other}"], [f"add t {key} 0 1", f"add t {other} 0 -1"], [f"need t {key} 0 ge {number}", f"del t {other}"], []))
+    return rand.choice(([f"put t {key} {number}"], [f"put t {key} {number}",
+        f"put t {other} {number}", f"put t own{number} 1"], [f"del t {key}"],
+                        [f"copy t {key} {other}"], [f"add t {key} 0 1", f"add t {other} 0 -1"],
+                        [f"need t {key} 0 ge {number}", f"del t {other}"], []))
 
 
 def lines_of(rand, words, sessions, bodies):
     blocks = [["txn", *statements, "end"] for statements in bodies]
     keys = ["k0", "k1", f"own{rand.randrange(9)}"]
-    blocks += [[f"read {rand.choice(sessions)}", f"row t {rand.choice(keys)}", f"sum t 0 {' '.join(keys)}", "end"] for _ in range(rand.choice((1, 4, 12)))]
+    blocks += [[f"read {rand.choice(sessions)}", f"row t {rand.choice(keys)}",
+                f"sum t 0 {' '.join(keys)}", "end"] for _ in range(rand.choice((1, 4, 12)))]
     at = rand.randrange(len(words) + 1)
     # The words are in two lines among the blocks, in their order.
     at = rand.randrange(len(words) + 1)
@@ -191,23 +204,26 @@ def lines_of(rand, words, sessions, bodies):
     places = sorted(rand.choice((rand.randrange(len(blocks) + 1), len(blocks))) for _ in turns)
     for place, line in zip(reversed(places), reversed(turns)):
         blocks.insert(place, line)
-    return ("\n".join(["table t int", *(line for block in blocks for line in block)]) + "\n").encode()
+    return ("\n".join(["table t int", *(line for block in blocks for line in block)])
+            + "\n").encode()
 
 
 def scheduled(rand, workers):
     keys = [f"k{number}" for number in range(rand.choice((1, 2, 5, 40)))]
     bodies = [body(rand, keys, number) for number in range(rand.choice((0, 1, 3, 8, 20, 60)))]
-    words, sessions = rand.choice((any_words, any_words, bursts, rounds))(rand, workers, rand.choice((1, 4, 12, 40, 120)))
+    words, sessions = rand.choice((any_words, any_words, bursts, rounds))(rand, workers,
+        rand.choice((1, 4, 12, 40, 120)))
     return lines_of(rand, words, sessions, bodies)
 
 
-# One worker takes so many turns before the others that its list is full: its numbers are on the row of number 1, and the
-# last ones on rows that the others write too.
+# One worker takes so many turns before the others that its list is full: its numbers are on the row
+# of number 1, and the last ones on rows that the others write too.
 def one_alone(rand, workers):
     alone, bodies = rand.randint(2, workers), []
     for number in range(1, rand.randint(66, 70) * workers):
         owner = (number - 1) % workers + 1
-        key = rand.choice(("k0", "k1")) if number > 64 * workers else "a" if number == 1 or owner == alone else f"own{number}"
+        key = (rand.choice(("k0", "k1")) if number > 64 * workers
+               else "a" if number == 1 or owner == alone else f"own{number}")
         bodies.append([f"put t {key} {number}"])
     words = [f"w{alone}"] * rand.randint(60, 80)
     for worker in rand.sample(range(1, workers + 1), workers):
@@ -232,34 +248,42 @@ class Schedules(compare.Comparison):
     def check_meaning(self, data, workers):
         _, printed, _ = schedule.turns(data, workers)
         why = meaning.wrong("clone", data, 0, b"".join(printed.splitlines(keepends=True)[:-1]))
-        self.count(why is None, f"a text that no clone has, with {workers} workers: {why}: {data[:2000]!r}")
+        self.count(why is None,
+                   f"a text that no clone has, with {workers} workers: {why}: {data[:2000]!r}")
 
     def notice(self, data, workers):
         script = meaning.script_within(data)
         txns = reference.run_serial(script)
         right = schedule.run(txns, workers, script.reads, script.turns)[:2]
         for kind in CHANGED:
-            if kind not in self.noticed and schedule.run(txns, workers, script.reads, script.turns, kind)[:2] != right:
+            if kind not in self.noticed and schedule.run(txns, workers, script.reads, script.turns,
+                                                         kind)[:2] != right:
                 self.noticed.add(kind)
 
     def finish_turns(self):
         for what in SEEN:
             self.count(what in self.seen, f"no schedule of this seed has {what}")
         for kind in CHANGED:
-            self.count(kind in self.noticed, f"no schedule of this seed notices this machine: {kind.__doc__}")
+            self.count(kind in self.noticed,
+                       f"no schedule of this seed notices this machine: {kind.__doc__}")
         return self.finish(ANSWERS)
 
 
 def large_inputs(rand):
     head, put = b"table t int\nread 1\nrow t k1\nend\n", b"txn\nput t k%d %d\nend\n"
     words = [b"w%d" % rand.randint(1, 4) if number % 50 else b"v" for number in range(65_536)]
-    turns = b"".join(b"turns " + b" ".join(words[at:at + 4096]) + b"\n" for at in range(0, len(words), 4096))
-    yield "65536 words on 20000 transactions", 4, head + turns + b"".join(put % (number % 100, number % 7) for number in range(20_000))
-    yield "20000 writes of one row that two workers have in turn", 2, head + b"".join(put % (0, number % 7) for number in range(20_000))
+    turns = b"".join(b"turns " + b" ".join(words[at:at + 4096]) + b"\n"
+                     for at in range(0, len(words), 4096))
+    yield "65536 words on 20000 transactions", 4, head + turns + b"".join(
+        put % (number % 100, number % 7) for number in range(20_000))
+    yield "20000 writes of one row that two workers have in turn", 2, head + b"".join(
+        put % (0, number % 7) for number in range(20_000))
     yield "65537 transactions", 1, head + b"txn\nend\n" * 65_537
-    yield "262145 writes", 1, b"table t int\n" + (b"txn\n" + b"del t a\n" * 256 + b"end\n") * 1024 + b"txn\ndel t a\nend\n"
+    yield "262145 writes", 1, b"table t int\n" + (b"txn\n" + b"del t a\n" * 256
+                                                  + b"end\n") * 1024 + b"txn\ndel t a\nend\n"
     yield "65537 rows", 1, b"table t int\n" + b"".join(
-        b"txn\n" + b"".join(b"del t %d\n" % (block * 256 + n) for n in range(256)) + b"end\n" for block in range(256)) + b"txn\ndel t 65536\nend\n"
+        b"txn\n" + b"".join(b"del t %d\n" % (block * 256 + n) for n in range(256)) + b"end\n"
+        for block in range(256)) + b"txn\ndel t 65536\nend\n"
     yield "a byte too many", 1, b"\n" * (reference.LIMITS["primary"] + 1)
 
 
@@ -275,7 +299,8 @@ def main():
             comparison.notice(data, workers)
             if number % 5 == 0:
                 comparison.check_meaning(data, workers)
-    for make in [compare.script_input] * 100 + [compare.line_input] * 140 + [compare.limit_input] * 15:
+    for make in [compare.script_input] * 100 + [compare.line_input] * 140 + [
+        compare.limit_input] * 15:
         comparison.compare_turns(make(rand), rand.choice(WORKERS))
     for name, data in compare.examples():
         for workers in range(1, 17):

@@ -1,13 +1,16 @@
-# Reads documents, and prints what tests/run.sh is to run of them: `awk -v of=faults|commands -f tests/documents.awk FILE ..`.
+# Reads documents, and prints what tests/run.sh is to run of them: `awk -v of=faults|commands -f
+# tests/documents.awk FILE ..`.
 #
-# of=faults: the rows of the tables of faults, as a file of cases (see cases.awk). Such a row ends with two cells in
-# backquotes, an input and the line that is printed for it: `bad log at ..` or `bad script line ..`. An input of a log
-# is in hexadecimal, where a row of two cells `NAME` and `HEX ..` before it names bytes; in a script ` / ` is a line
-# end. An input without backquotes has no bytes.
+# of=faults: the rows of the tables of faults, as a file of cases (see cases.awk). Such a row ends
+# with two cells in backquotes, an input and the line that is printed for it: `bad log at ..` or
+# `bad script line ..`. An input of a log is in hexadecimal, where a row of two cells `NAME` and
+# `HEX ..` before it names bytes; in a script ` / ` is a line end. An input without backquotes has
+# no bytes.
 #
-# of=commands: the fenced blocks `console`, as the steps of cases.awk. A line that begins with `$ ` is a command, and
-# the lines up to the next are what it prints on standard output. A fenced block `sh` has commands that take long or
-# run these tests themselves; each must be a file of the repository.
+# of=commands: the fenced blocks `console`, as the steps of cases.awk. A line that begins with `$ `
+# is a command, and the lines up to the next are what it prints on standard output. A fenced block
+# `sh` has commands that take long or run these tests themselves; each must be a file of the
+# repository.
 
 function trimmed(text) {
     gsub(/^ +| +$/, "", text)

@@ -1,16 +1,19 @@
-"""Runs the built program where calls fail, inputs end early and processors are busy, and prints how many runs end as
-they are to end: `python3 tests/hostile.py [quick|refused|failing|cut|corners|load] ..`, all of these but `quick` if
-none is named. `quick`, which the gate runs, has fewer inputs of each, and no load.
+"""Runs the built program where calls fail, inputs end early and processors are busy, and prints how
+many runs end as they are to end: `python3 tests/hostile.py [quick|refused|failing|cut|corners|load]
+..`, all of these but `quick` if none is named. `quick`, which the gate runs, has fewer inputs of
+each, and no load.
 
-  refused  each allocation of a run is refused in turn, alone and with all later ones: status 7 and nothing printed,
-           or the right output (a thread that can't be started runs elsewhere)
-  failing  each read and each write fails in turn: status 5 and nothing printed, or 6 and a prefix of the output
-  cut      a log is cut after each byte
-  corners  no transactions on 16 workers, 256 read blocks, one processor
-  load     200 runs on several threads, beside busy processes
+refused  each allocation of a run is refused in turn, alone and with all later ones: status 7 and
+         nothing printed, or the right output (a thread that can't be started runs elsewhere)
+failing  each read and each write fails in turn: status 5 and nothing printed, or 6 and a prefix of
+         the output
+cut      a log is cut after each byte
+corners  no transactions on 16 workers, 256 read blocks, one processor
+load     200 runs on several threads, beside busy processes
 
-A right output is one that its meaning allows (meaning.py). Allocations, reads and writes are made to fail by
-refuse.c, which a C compiler (`cc`) builds; without one these parts are skipped, and that is reported."""
+A right output is one that its meaning allows (meaning.py). Allocations, reads and writes are made
+to fail by refuse.c, which a C compiler (`cc`) builds; without one these parts are skipped, and that
+is reported."""
 import os
 import shutil
 import subprocess
@@ -23,10 +26,13 @@ import reference
 import schedule
 from compare import PROGRAM, TOP
 
-REFUSED = [["clone"], ["clone", "--threads", "4", "--workers", "4"], ["backup", "--workers", "2"], ["turns", "--workers", "2"],
+REFUSED = [["clone"], ["clone", "--threads", "4", "--workers", "4"], ["backup", "--workers", "2"],
+           ["turns", "--workers", "2"],
            ["gen", "--workers", "2", "--count", "3"], ["apply"], ["primary"]]
-# The outputs of these runs are the same each time: one thread and no place but 0 to read at, or a schedule.
-FAILING = [(["apply"], "moves"), (["primary"], "moves"), (["backup"], "moves"), (["clone"], "moves"), (["clone", "--workers", "3"], "reads"),
+# The outputs of these runs are the same each time: one thread and no place but 0 to read at, or a
+# schedule.
+FAILING = [(["apply"], "moves"), (["primary"], "moves"), (["backup"], "moves"),
+           (["clone"], "moves"), (["clone", "--workers", "3"], "reads"),
            (["turns", "--workers", "2"], "turns")]
 PARTS = ["refused", "failing", "cut", "corners", "load"]
 QUICK = PARTS[:-1]
@@ -34,8 +40,11 @@ SECONDS = 120
 
 TABLE = b"table acct int\n"
 TURNS = b"turns w2 w2 v s1 w1 w1 w2 v s2 s1 w1 w1 w2 w1 v s3\n"
-MOVES = b"".join(b"txn\nput acct a%d %d\nput acct b%d 0\nend\ntxn\nneed acct a%d 0 ge 5\nadd acct b%d 0 5\nend\n" % (n, n, n, n, n) for n in range(12))
-READS = b"".join(b"read %d\nrow acct a%d\nsum acct 0 a1 a2 b7\nend\n" % (n % 3 + 1, n) for n in range(8))
+MOVES = b"".join(
+    b"txn\nput acct a%d %d\nput acct b%d 0\nend\n" % (n, n, n)
+    + b"txn\nneed acct a%d 0 ge 5\nadd acct b%d 0 5\nend\n" % (n, n) for n in range(12))
+READS = b"".join(b"read %d\nrow acct a%d\nsum acct 0 a1 a2 b7\nend\n" % (n % 3 + 1, n)
+                 for n in range(8))
 
 
 # ---- inputs
@@ -65,7 +74,8 @@ EXACT = {"apply": lambda words, data: reference.answer("apply", data)[:2],
 # ---- runs
 
 class Ran:
-    """How a run ended: its status, what it printed, the lines of standard error, and whether a call was made to fail."""
+    """How a run ended: its status, what it printed, the lines of standard error, and whether a call
+    was made to fail."""
 
     def __init__(self, words, data, env=None, library=None, before=None):
         read_end, report = os.pipe()
@@ -73,9 +83,12 @@ class Ran:
         if library:
             settings["LD_PRELOAD"] = library
         try:
-            ran = subprocess.run([PROGRAM, *words], input=data, stdout=subprocess.PIPE, stderr=subprocess.PIPE, pass_fds=[report],
-                                 env=dict(os.environ, **settings), preexec_fn=before, timeout=SECONDS)
-            self.status, self.printed, self.lines = ran.returncode, ran.stdout, ran.stderr.count(b"\n")
+            ran = subprocess.run([PROGRAM, *words], input=data, stdout=subprocess.PIPE,
+                                 stderr=subprocess.PIPE, pass_fds=[report],
+                                 env=dict(os.environ, **settings), preexec_fn=before,
+                                 timeout=SECONDS)
+            self.status, self.printed, self.lines = ran.returncode, ran.stdout, ran.stderr.count(
+                b"\n")
         except subprocess.TimeoutExpired:
             self.status, self.printed, self.lines = "no end", b"", 0
         os.close(report)
@@ -100,7 +113,8 @@ class Checks:
         exact = EXACT.get(words[0])
         if exact is None:
             return meaning.wrong(words[0], data, ran.status, ran.printed)
-        return None if (ran.status, ran.printed) == exact(words, data) else f"{ran.status} {ran.printed[:100]!r}"
+        return None if (ran.status, ran.printed) == exact(words,
+            data) else f"{ran.status} {ran.printed[:100]!r}"
 
     def check(self, words, name, data, **how):
         why = self.wrong(words, data, Ran(words, data, **how))
@@ -126,22 +140,27 @@ class Checks:
             if ran.status == 7:
                 # With all later allocations refused the line on standard error may be missing.
                 lines = ran.lines == 1 or which == "C5_ALLOC_FROM" and ran.lines == 0
-                self.count(ran.printed == b"" and lines, f"{what}: 7, but {ran.printed[:100]!r} and {ran.lines} lines on standard error")
+                self.count(ran.printed == b"" and lines,
+                    f"{what}: 7, but {ran.printed[:100]!r} and {ran.lines} lines on standard error")
             else:
-                self.count(self.wrong(words, data, ran) is None, f"{what}: {self.wrong(words, data, ran)}")
-        self.count(number > 10, f"{' '.join(words)} on {name}: only {number - 1} allocations were refused")
+                self.count(self.wrong(words, data, ran) is None,
+                           f"{what}: {self.wrong(words, data, ran)}")
+        self.count(number > 10,
+                   f"{' '.join(words)} on {name}: only {number - 1} allocations were refused")
 
     # ---- reads and writes that fail
 
     def failing(self):
         for words, name in FAILING:
-            data = input_of(words[0], TABLE + {"moves": MOVES, "reads": READS, "turns": MOVES + READS + TURNS}[name])
+            data = input_of(words[0], TABLE + {"moves": MOVES, "reads": READS,
+                                               "turns": MOVES + READS + TURNS}[name])
             for pieces in (1, 10) if self.quick else (1, 10, 150):
                 self.fail_each(words, name, data, pieces)
 
     def fail_each(self, words, name, data, pieces):
         whole = Ran(words, data)
-        self.count(self.wrong(words, data, whole) is None, f"{' '.join(words)} on {name}: {self.wrong(words, data, whole)}")
+        self.count(self.wrong(words, data, whole) is None,
+                   f"{' '.join(words)} on {name}: {self.wrong(words, data, whole)}")
         for which, size in (("C5_READ", len(data)), ("C5_WRITE", len(whole.printed))):
             number, most = 0, str(max(1, size // pieces))
             while True:
@@ -149,13 +168,18 @@ class Checks:
                 ran = Ran(words, data, {which: str(number), "C5_SHORT": most}, self.library)
                 if not ran.failed:
                     break
-                what = f"{' '.join(words)} on {name} with {which}={number} C5_SHORT={most}: {ran.status} {ran.printed[:100]!r}"
+                what = (f"{' '.join(words)} on {name} with {which}={number} C5_SHORT={most}: "
+                        f"{ran.status} {ran.printed[:100]!r}")
                 if which == "C5_READ":
                     self.count((ran.status, ran.printed, ran.lines) == (5, b"", 1), what)
                 else:
-                    self.count((ran.status, ran.lines) == (6, 1) and whole.printed.startswith(ran.printed) and ran.printed != whole.printed, what)
-            self.count((ran.status, ran.printed) == (0, whole.printed), f"{' '.join(words)} on {name} in pieces of {most}: {ran.status}")
-            self.count(number > pieces, f"{' '.join(words)} on {name} in pieces of {most}: only {number - 1} calls failed")
+                    self.count((ran.status, ran.lines) == (6, 1)
+                        and whole.printed.startswith(ran.printed) and ran.printed != whole.printed,
+                               what)
+            self.count((ran.status, ran.printed) == (0, whole.printed),
+                       f"{' '.join(words)} on {name} in pieces of {most}: {ran.status}")
+            self.count(number > pieces,
+                f"{' '.join(words)} on {name} in pieces of {most}: only {number - 1} calls failed")
 
     # ---- logs that end early
 
@@ -166,30 +190,36 @@ class Checks:
             script = meaning.script_within(data)
             log = log_of(script)
             for size in range(0, len(log) + 1, 5 if self.quick else 1):
-                self.check(["backup", "--workers", "2"], f"{name} and {size} bytes of its log", data + b"log\n" + log[:size])
+                self.check(["backup", "--workers", "2"], f"{name} and {size} bytes of its log",
+                           data + b"log\n" + log[:size])
                 self.check(["apply"], f"{size} bytes of the log of {name}", log[:size])
 
     # ---- corners
 
     def corners(self):
         empty = TABLE + READS
-        many = TABLE + MOVES + b"".join(b"read %d\nsum acct 0 a1 b1\nend\n" % (n % 16 + 1) for n in range(256))
+        many = TABLE + MOVES + b"".join(b"read %d\nsum acct 0 a1 b1\nend\n" % (n % 16 + 1)
+                                        for n in range(256))
         one = min(os.sched_getaffinity(0))
-        for words in (["clone", "--threads", "16", "--workers", "16"], ["backup", "--workers", "16"], ["turns", "--workers", "16"]):
+        for words in (["clone", "--threads", "16", "--workers", "16"],
+                      ["backup", "--workers", "16"], ["turns", "--workers", "16"]):
             self.check(words, "no transactions", input_of(words[0], empty))
             self.check(words, "a table alone", input_of(words[0], TABLE))
             self.check(words, "256 read blocks", input_of(words[0], many))
             for name, data in (*self.examples(), ("256 read blocks", many)):
-                self.check(words, f"{name} on one processor", input_of(words[0], data), before=lambda: os.sched_setaffinity(0, [one]))
+                self.check(words, f"{name} on one processor", input_of(words[0], data),
+                           before=lambda: os.sched_setaffinity(0, [one]))
 
     # ---- load
 
     def load(self):
         data = TABLE + MOVES * 20 + READS * 4
-        busy = [subprocess.Popen([sys.executable, "-c", "while True: pass"]) for _ in range(2 * (os.cpu_count() or 1))]
+        busy = [subprocess.Popen([sys.executable, "-c", "while True: pass"])
+                for _ in range(2 * (os.cpu_count() or 1))]
         try:
             for number in range(200):
-                self.check(["clone", "--threads", "4", "--workers", "4"], f"moves under load, run {number}", data)
+                self.check(["clone", "--threads", "4", "--workers", "4"],
+                           f"moves under load, run {number}", data)
         finally:
             for process in busy:
                 process.kill()
@@ -202,7 +232,8 @@ class Checks:
 def built_library(folder):
     library = os.path.join(folder, "refuse.so")
     source = os.path.join(TOP, "tests", "refuse.c")
-    if not shutil.which("cc") or subprocess.run(["cc", "-O1", "-shared", "-fPIC", "-o", library, source, "-ldl"], check=False).returncode != 0:
+    if not shutil.which("cc") or subprocess.run(["cc", "-O1", "-shared", "-fPIC", "-o", library,
+                                                 source, "-ldl"], check=False).returncode != 0:
         return None
     return library
 

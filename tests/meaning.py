@@ -1,5 +1,6 @@
-"""What `primary --threads`, `backup` and `clone` print isn't one text: which order and which places come is free.
-These checks say whether a printed text is right by what it means: each function returns None, or why it is wrong."""
+"""What `primary --threads`, `backup` and `clone` print isn't one text: which order and which places
+come is free. These checks say whether a printed text is right by what it means: each function
+returns None, or why it is wrong."""
 import collections
 import re
 
@@ -12,7 +13,8 @@ ORDER = re.compile(rb"order((?: (?:0|[1-9]\d*))*)")
 # ---- what a text must be
 
 def row_line(tables, name, row):
-    cells = [b"-"] if row is None else [b"%d" % cell if isinstance(cell, int) else b'"' + cell + b'"' for cell in row]
+    cells = [b"-"] if row is None else [b"%d" % cell if isinstance(cell, int)
+                                        else b'"' + cell + b'"' for cell in row]
     return b" ".join([tables[name[0]][0], name[1], *cells])
 
 
@@ -53,13 +55,16 @@ def wrong_replies(tables, reads, txns, lines):
             return "a head is missing"
         of, place, lag = map(int, head.groups())
         if of != session or place + lag != len(txns) or place < last.get(session, 0):
-            return f"the head is {head.group()!r}, after place {last.get(session, 0)} of session {session}"
+            return (f"the head is {head.group()!r}, after place {last.get(session, 0)} "
+                    f"of session {session}")
         last[session] = place
         for line in block:
-            want, got = answer_line(tables, line, states.after(place)), lines.popleft() if lines else b""
+            want, got = answer_line(tables, line,
+                                    states.after(place)), lines.popleft() if lines else b""
             if got != want:
                 return f"at place {place} the answer is {got!r}, not {want!r}"
-    if b"".join(line + b"\n" for line in lines) != reference.rows_text(tables, states.after(len(txns))):
+    if b"".join(line + b"\n" for line in lines) != reference.rows_text(tables,
+        states.after(len(txns))):
         return "the rows are others"
     return None
 
@@ -81,7 +86,8 @@ def names_and_types(script):
 # ---- the commands
 
 def wrong_order(script, order):
-    return None if sorted(order) == list(range(len(script.bodies))) else f"the order is {order[:20]}"
+    return None if sorted(order) == list(
+        range(len(script.bodies))) else f"the order is {order[:20]}"
 
 
 def wrong_primary(script, printed):
@@ -105,7 +111,8 @@ def wrong_clone(script, printed):
     if not order:
         return f"the first line is {lines[0][:40]!r}"
     order = [int(number) for number in order.group(1).split()]
-    return wrong_order(script, order) or wrong_replies(names_and_types(script), script.reads, run_in_order(script, order), lines[1:])
+    return wrong_order(script, order) or wrong_replies(names_and_types(script), script.reads,
+                                                       run_in_order(script, order), lines[1:])
 
 
 # Whether a text that isn't wrong has the transactions in the order of the script.
@@ -141,10 +148,12 @@ def backup_parts(data):
     return script, txns
 
 
-COMMANDS = {"primary": (script_within, wrong_primary), "clone": (script_within, wrong_clone), "backup": (backup_parts, wrong_backup)}
+COMMANDS = {"primary": (script_within, wrong_primary), "clone": (script_within, wrong_clone),
+            "backup": (backup_parts, wrong_backup)}
 
 
-# Why the answer of a command to an input is wrong, or None; and the answer's status and text, if it is a refusal.
+# Why the answer of a command to an input is wrong, or None; and the answer's status and text, if it
+# is a refusal.
 def wrong(command, data, status, printed):
     accept, check = COMMANDS[command]
     try:

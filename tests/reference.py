@@ -1,8 +1,10 @@
-"""A second implementation of `c5`, written from docs/LOG_FORMAT.md and docs/SCRIPT.md alone and as plainly as
-they read, to compare the program with: `python3 tests/reference.py apply|primary < input`.
+"""A second implementation of `c5`, written from docs/LOG_FORMAT.md and docs/SCRIPT.md alone and as
+plainly as they read, to compare the program with: `python3 tests/reference.py apply|primary <
+input`.
 
-A refusal also has the tests that the faulty item or line fails, in the order of the document: the first of them
-gives the fault, and the others show whether another order would have given another one."""
+A refusal also has the tests that the faulty item or line fails, in the order of the document: the
+first of them gives the fault, and the others show whether another order would have given another
+one."""
 import sys
 
 LIMITS = {"apply": 88_080_384, "backup": 88_080_384, "primary": 4_194_304, "clone": 4_194_304}
@@ -61,7 +63,8 @@ class Log:
         self.item(4, "magic", lambda part: part == b"C5L1"[:len(part)])
         for _ in range(self.small(16)):
             names = [name for name, _ in self.tables]
-            name = self.item(self.small(16), "header", lambda part: only(part, NAME) and part not in names)
+            name = self.item(self.small(16), "header", lambda part: only(part, NAME)
+                             and part not in names)
             types = self.item(self.small(8), "header", lambda part: only(part, bytes([INT, TEXTS])))
             self.tables.append((name, tuple(types)))
 
@@ -72,7 +75,8 @@ class Log:
             first = next((test for test in FRAME_TESTS if FAILS[test](frame)), None)
             if first:
                 failed = [test for test in FRAME_TESTS if FAILS[test](frame)]
-                raise BadLog(frame.end if first == "after" else self.at, KINDS.get(first, first), failed)
+                raise BadLog(frame.end if first == "after" else self.at, KINDS.get(first, first),
+                             failed)
             self.at = frame.end
             if frame.first == b"W":
                 self.writes.append((frame.name, frame.row))
@@ -98,7 +102,8 @@ class Frame:
             self.table = self.payload[1] if len(self.payload) > 1 else 255
             key_length = self.payload[2] if len(self.payload) > 2 else 0
             self.key = self.payload[3:3 + key_length]
-            self.has_key = 1 <= key_length <= 32 and len(self.key) == key_length and only(self.key, KEY)
+            self.has_key = 1 <= key_length <= 32 and len(self.key) == key_length and only(self.key,
+                KEY)
             self.name = self.table, self.key
             self.change = self.payload[3 + key_length:]
             self.read_change()
@@ -139,14 +144,18 @@ FAILS = {
     "length": lambda frame: not 5 <= frame.size <= 300,
     "cut": lambda frame: not frame.has_length or len(frame.payload) < frame.size,
     "kind": lambda frame: frame.first not in (b"W", b"C", b"E"),
-    "size": lambda frame: frame.first == b"C" and frame.size != 17 or frame.first == b"E" and frame.size != 5,
+    "size": lambda frame: frame.first == b"C" and frame.size != 17 or frame.first == b"E"
+         and frame.size != 5,
     "table": lambda frame: is_write(frame) and frame.table >= len(frame.log.tables),
     "key": lambda frame: is_write(frame) and not frame.has_key,
     "cell": lambda frame: is_write(frame) and not frame.has_change,
-    "order": lambda frame: is_write(frame) and bool(frame.log.writes) and frame.name <= frame.log.writes[-1][0],
+    "order": lambda frame: is_write(frame) and bool(frame.log.writes)
+         and frame.name <= frame.log.writes[-1][0],
     "stamp": lambda frame: frame.first == b"C" and frame.stamp <= frame.log.stamp,
-    "count": lambda frame: frame.first == b"C" and number_of(frame.payload[13:17]) != len(frame.log.writes),
-    "end": lambda frame: frame.first == b"E" and (bool(frame.log.writes) or number_of(frame.payload[1:5]) != len(frame.log.txns)),
+    "count": lambda frame: frame.first == b"C"
+         and number_of(frame.payload[13:17]) != len(frame.log.writes),
+    "end": lambda frame: frame.first == b"E" and (bool(frame.log.writes)
+    or number_of(frame.payload[1:5]) != len(frame.log.txns)),
     "after": lambda frame: frame.first == b"E" and frame.end < len(frame.log.data),
 }
 FRAME_TESTS = list(FAILS)
@@ -174,7 +183,8 @@ def spelled(tables, txns):
         for (table, key), row in writes:
             change = b"\1" if row is None else b"\0" + b"".join(map(cell, row))
             out.append(frame(b"W" + bytes([table]) + counted(key) + change))
-        out.append(frame(b"C" + script.to_bytes(4, "big") + stamp.to_bytes(8, "big") + len(writes).to_bytes(4, "big")))
+        out.append(frame(b"C" + script.to_bytes(4, "big") + stamp.to_bytes(8, "big")
+                         + len(writes).to_bytes(4, "big")))
     out.append(frame(b"E" + len(txns).to_bytes(4, "big")))
     return b"".join(out)
 
@@ -193,7 +203,8 @@ def rows_text(tables, state):
     def cell(value):
         return str(value).encode() if isinstance(value, int) else b'"' + value + b'"'
 
-    lines = [b" ".join([tables[table][0], key, *map(cell, state[table, key])]) + b"\n" for table, key in sorted(state)]
+    lines = [b" ".join([tables[table][0], key, *map(cell, state[table, key])]) + b"\n"
+             for table, key in sorted(state)]
     return b"".join(lines) + b"rows %d\n" % len(state)
 
 
@@ -242,12 +253,14 @@ def turn_in(word):
         return None
     if text == b"v":
         return "v", 0
-    if text[:1] in (b"w", b"s") and 2 <= len(text) <= 3 and text[1:].isdigit() and text[1:2] != b"0" and int(text[1:]) <= 16:
+    if text[:1] in (b"w", b"s") and 2 <= len(text) <= 3 and text[1:].isdigit() and text[
+        1:2] != b"0" and int(text[1:]) <= 16:
         return text[:1].decode(), int(text[1:])
     return None
 
 
-# Each statement: which numbers of words it has, and its places. The last place of the first four is repeated.
+# Each statement: which numbers of words it has, and its places. The last place of the first four is
+# repeated.
 STATEMENTS = {
     b"table": (lambda n: n >= 3, ["NAME", "TYPE"]),
     b"put": (lambda n: n >= 4, ["T", "K", "CELL"]),
@@ -290,7 +303,8 @@ class Script:
         if first in IN_TXN:
             return inside != "txn" or len(lines) < 256
         if first in IN_READ:
-            return (inside != "read" or len(lines) < 16) and not (first == b"sum" and len(words) - 3 > 16)
+            return (inside != "read" or len(lines) < 16) and not (first == b"sum"
+                and len(words) - 3 > 16)
         if first == b"read":
             return len(self.reads) < 256
         if first == b"turns":
@@ -315,7 +329,8 @@ class Script:
                 value = {b"int": INT, b"text": TEXTS}.get(text)
                 kind = "type" if quoted or value is None else None
             elif place == "T":
-                found = [n for n, other in enumerate(self.tables) if not quoted and text == other.name]
+                found = [n for n, other in enumerate(self.tables) if not quoted
+                         and text == other.name]
                 value, kind = (found[0], None) if found else (None, "table")
                 table = self.tables[found[0]] if found else None
             elif place == "K":
@@ -328,7 +343,8 @@ class Script:
                 if cell < len(table.types):
                     value, kind = cell_in(table.types[cell], word)
             elif place == "COL" and table is not None:
-                is_column = not quoted and len(text) == 1 and text.isdigit() and int(text) < len(table.types)
+                is_column = not quoted and len(text) == 1 and text.isdigit() and int(text) < len(
+                    table.types)
                 value = int(text) if is_column else None
                 kind = "column" if not is_column else "type" if table.types[value] != INT else None
             elif place == "REL":
@@ -383,7 +399,8 @@ class Script:
         elif first == b"turns":
             self.turns += values
         elif first == b"end":
-            (self.bodies if self.block[0] == "txn" else self.reads).append(self.block[1:] if self.block[0] == "read" else self.block[1])
+            (self.bodies if self.block[0] == "txn" else self.reads).append(self.block[1:]
+                if self.block[0] == "read" else self.block[1])
             self.block = None
         elif first == b"put":
             self.block[-1].append(("put", (values[0], values[1]), tuple(values[2:])))
@@ -416,7 +433,8 @@ def read_script(data, front=False):
         at += len(line) + 1
         ended, failed = script.take(line, front)
         if failed:
-            raise Refused(3, f"bad script line {number} {failed[0][1]}\n", [test for test, _ in failed])
+            raise Refused(3, f"bad script line {number} {failed[0][1]}\n",
+                          [test for test, _ in failed])
         if ended:
             return script, data[at:]
     if front or script.block is not None or not script.tables:
@@ -433,13 +451,15 @@ def written_names(body):
 
 
 def check_counts(transactions, names):
-    for passed, what in ((transactions > 65_536, "transactions"), (len(names) > 262_144, "writes"), (len(set(names)) > 65_536, "rows")):
+    for passed, what in ((transactions > 65_536, "transactions"), (len(names) > 262_144, "writes"),
+                         (len(set(names)) > 65_536, "rows")):
         if passed:
             raise Refused(9, f"limit {what}\n")
 
 
 def check_limits(script):
-    check_counts(len(script.bodies), [name for body in script.bodies for name in written_names(body)])
+    check_counts(len(script.bodies), [name for body in script.bodies
+                                      for name in written_names(body)])
 
 
 def check_log_limits(txns):

@@ -73,7 +73,8 @@ is_wanted() {
 is_explained() {
     lines=0
     case "$status" in 2 | 5 | 6 | 7) lines=$explains ;; esac
-    [ "$(wc -l <"$got/errors")" -eq "$lines" ] && [ "$(grep -c '^c5: ' "$got/errors")" -eq "$lines" ]
+    [ "$(wc -l <"$got/errors")" -eq "$lines" ] &&
+        [ "$(grep -c '^c5: ' "$got/errors")" -eq "$lines" ]
 }
 
 end_case() {
@@ -147,7 +148,8 @@ for table in LOG_FORMAT.md:apply SCRIPT.md:primary; do
     run_cases "$got/cases" "docs/$document" "${table#*:}"
 done
 
-(cd "$top" && awk -v of=commands -f tests/documents.awk README.md docs/*.md $(ls crates/*/README.md 2>/dev/null)) >"$got/steps"
+(cd "$top" && awk -v of=commands -f tests/documents.awk README.md docs/*.md \
+    $(ls crates/*/README.md 2>/dev/null)) >"$got/steps"
 grep -q '^run' "$got/steps" || fail "README.md: no command was found"
 file=documents
 command=
@@ -155,7 +157,8 @@ run_steps
 
 # The page of --help: its examples, its commands, and the ranges of its options.
 succeeds() {
-    if (cd "$top" && PATH="$top:$PATH" exec bash -c "$1") >"$got/output" 2>"$got/errors" </dev/null; then
+    if (cd "$top" && PATH="$top:$PATH" exec bash -c "$1") \
+        >"$got/output" 2>"$got/errors" </dev/null; then
         pass
     else
         fail "c5 --help: status $? of: $1"
@@ -170,7 +173,8 @@ refuses_words() {
 "$program" --help >"$got/help"
 sed -n '/^examples:/,$ s/^  c5 /c5 /p' "$got/help" >"$got/examples"
 sed -n '/^commands:/,/^$/ s/^  \([a-z][a-z]*\) .*/\1/p' "$got/help" >"$got/commands"
-sed -n 's/^  --\([a-z]*\) N .*[ (]\([0-9]*\) to \([0-9]*\), default \([0-9]*\).*/\1 \2 \3 \4/p' "$got/help" >"$got/options"
+sed -n 's/^  --\([a-z]*\) N .*[ (]\([0-9]*\) to \([0-9]*\), default \([0-9]*\).*/\1 \2 \3 \4/p' \
+    "$got/help" >"$got/options"
 for found in examples commands options; do
     [ -s "$got/$found" ] || fail "c5 --help: no $found were found"
 done
@@ -201,8 +205,8 @@ for script in "$top"/examples/*.c5s; do
     fi
 done
 
-# The script c5 in a copy of the repository without its sources, with the rt that is given as its text: what it prints,
-# and what it says on standard error.
+# The script c5 in a copy of the repository without its sources, with the rt that is given as its
+# text: what it prints, and what it says on standard error.
 run_script() {
     rm -rf "$got/copy"
     for crate in $(sed -n 's/^\([a-z0-9_]*\):.*/\1/p' "$top/crates.txt"); do
@@ -214,23 +218,30 @@ run_script() {
         printf '%s\n' '#!/bin/sh' "$1" >"$got/copy/bin/rt"
         chmod +x "$got/copy/bin/rt"
     fi
-    PATH="$got/copy/bin:/usr/bin:/bin" "$got/copy/c5" apply <"$top/examples/first.log" >"$got/output" 2>"$got/errors"
+    PATH="$got/copy/bin:/usr/bin:/bin" "$got/copy/c5" apply <"$top/examples/first.log" \
+        >"$got/output" 2>"$got/errors"
 }
 
 file=c5
-if run_script "[ \$1 = lib ] || { mkdir out && cp '$program' out/c5; }" && grep -q '^rows 1$' "$got/output" &&
+if run_script "[ \$1 = lib ] || { mkdir out && cp '$program' out/c5; }" &&
+    grep -q '^rows 1$' "$got/output" &&
     [ "$(grep -c '^c5: [0-9]* of [0-9]*: ' "$got/errors")" -ge 10 ]; then
     pass
 else
     fail "c5: a first run doesn't build the program crate by crate, or doesn't run it"
 fi
-if run_script "echo no proof; exit 1" || ! grep -q '^no proof$' "$got/errors" || ! grep -q '^c5: .* was not proved' "$got/errors"; then
+if run_script "echo no proof; exit 1" || ! grep -q '^no proof$' "$got/errors" ||
+    ! grep -q '^c5: .* was not proved' "$got/errors"; then
     fail "c5: a failed proof isn't reported"
 else
     pass
 fi
 if ! (PATH=/usr/bin:/bin && command -v rt >/dev/null); then
-    if run_script "" || ! grep -q '^c5: .*needs rt' "$got/errors"; then fail "c5: rt isn't said to be missing"; else pass; fi
+    if run_script "" || ! grep -q '^c5: .*needs rt' "$got/errors"; then
+        fail "c5: rt isn't said to be missing"
+    else
+        pass
+    fi
 fi
 
 # A program that ends with a line `N passed, M failed`.
@@ -243,7 +254,8 @@ run_checks() {
         passed=$((passed + ${counts%% *}))
         failed=$((failed + ${counts##* }))
     fi
-    [ -n "$counts" ] && [ "$status" -eq 0 -o "${counts##* }" != 0 ] || fail "tests/$1: ended with status $status"
+    [ -n "$counts" ] && [ "$status" -eq 0 -o "${counts##* }" != 0 ] ||
+        fail "tests/$1: ended with status $status"
 }
 
 if command -v python3 >/dev/null 2>&1; then
@@ -252,7 +264,8 @@ if command -v python3 >/dev/null 2>&1; then
     done
     run_checks hostile.py quick
 else
-    echo "tests/compare*.py, tests/hostile.py: skipped, as there is no python3: the program was not compared with the second implementation"
+    echo "tests/compare*.py, tests/hostile.py: skipped, as there is no python3:" \
+        "the program was not compared with the second implementation"
 fi
 
 echo "$passed passed, $failed failed"

@@ -1,9 +1,10 @@
-"""A second implementation of the schedule machine of `turns` and of the script of `gen`, apart from the program's code
-and definitions and as plain as their descriptions: sets of numbers, and predecessors by names.
+"""A second implementation of the schedule machine of `turns` and of the script of `gen`, apart from
+the program's code and definitions and as plain as their descriptions: sets of numbers, and
+predecessors by names.
 
 `python3 tests/schedule.py turns [WORKERS] < SCRIPT` prints what `c5 turns` is to print, and
-`python3 tests/schedule.py steps [WORKERS] < SCRIPT` what each word of the schedule does.
-`python3 tests/schedule.py gen COUNT` prints the summary of `gen`, and `script COUNT` its script."""
+`python3 tests/schedule.py steps [WORKERS] < SCRIPT` what each word of the schedule does. `python3
+tests/schedule.py gen COUNT` prints the summary of `gen`, and `script COUNT` its script."""
 import sys
 
 import meaning
@@ -30,7 +31,8 @@ class Machine:
         self.done, self.place, self.joined = set(), 0, 0
         self.next = {worker: worker for worker in range(1, workers + 1)}
         self.put_off = {worker: set() for worker in range(1, workers + 1)}
-        # The least number that a worker owns and that is not done, as far as it has been looked for.
+        # The least number that a worker owns and that is not done, as far as it has been looked
+        # for.
         self.least = dict(self.next)
         self.left = {session: sum(read[0] == session for read in reads) for session in range(1, 17)}
         self.places = {session: [] for session in range(1, 17)}
@@ -132,7 +134,8 @@ def run(txns, workers, reads, words, kind=Machine):
     elif len(machine.done) == machine.last:
         machine.seen.add("each write installed by a word")
     machine.close()
-    return [place for session in range(1, 17) for place in machine.places[session]], machine.joined, machine.seen
+    return [place for session in range(1, 17)
+            for place in machine.places[session]], machine.joined, machine.seen
 
 
 # ---- what `turns` prints
@@ -147,10 +150,12 @@ def turns_lines(script, workers):
     for (session, block), place in zip(meaning.in_reply_order(script.reads), places):
         lines.append(b"read %d place %d lag %d" % (session, place, len(txns) - place))
         lines += [meaning.answer_line(tables, line, states.after(place)) for line in block]
-    return b"\n".join(lines) + b"\n" + reference.rows_text(tables, states.after(len(txns))) + b"put_off %d\n" % put_off, seen
+    return b"\n".join(lines) + b"\n" + reference.rows_text(tables,
+        states.after(len(txns))) + b"put_off %d\n" % put_off, seen
 
 
-# The status and the bytes that `turns` prints for an input, and what its schedule made the machine do.
+# The status and the bytes that `turns` prints for an input, and what its schedule made the machine
+# do.
 def turns(data, workers):
     if len(data) > reference.LIMITS["primary"]:
         return 8, b"too long\n", set()
@@ -171,7 +176,8 @@ def print_steps(script, workers):
         word = kind if kind == "v" else f"{kind}{number}"
         if kind == "w":
             installed, put_off = machine.worker(number)
-            did = [f"installs {n}" for n in installed] + [f"puts {put_off} off"] * (put_off is not None)
+            did = [f"installs {n}" for n in installed] + [f"puts {put_off} off"] * (
+                put_off is not None)
         elif kind == "v":
             machine.visible()
             did = [f"the place is {machine.place}"]
@@ -199,12 +205,15 @@ def draws():
 
 
 def generated_script(count):
-    lines = ["table acct int", "txn", *(f"put acct {account} {FIRST}" for account in ACCOUNTS), "end"]
+    lines = ["table acct int", "txn", *(f"put acct {account} {FIRST}" for account in ACCOUNTS),
+             "end"]
     for _, (sender, to, amount) in zip(range(count - 1), draws()):
         sender, to = ACCOUNTS[sender], ACCOUNTS[to]
-        lines += ["txn", f"need acct {sender} 0 ge {amount}", f"add acct {sender} 0 -{amount}", f"add acct {to} 0 {amount}", "end"]
+        lines += ["txn", f"need acct {sender} 0 ge {amount}", f"add acct {sender} 0 -{amount}",
+                  f"add acct {to} 0 {amount}", "end"]
     for session in SESSIONS:
-        lines += [f"read {session}", *(f"sum acct 0 {' '.join(ACCOUNTS[at:at + 16])}" for at in range(0, 64, 16)), "end"]
+        lines += [f"read {session}", *(f"sum acct 0 {' '.join(ACCOUNTS[at:at + 16])}"
+                                       for at in range(0, 64, 16)), "end"]
     return ("\n".join(lines) + "\n").encode()
 
 
@@ -218,15 +227,18 @@ def summaries():
         if moves:
             balances[sender] -= amount
             balances[to] += amount
-        declined, writes, size = declined + (not moves), writes + 2 * moves, size + 2 * write * moves + mark
+        declined, writes = declined + (not moves), writes + 2 * moves
+        size += 2 * write * moves + mark
 
 
 def summary(transactions, declined, writes, size, rows, total, whole):
-    return (f"transactions {transactions}\ndeclined {declined}\nwrites {writes}\nbytes {size}\nrows {rows}\ntotal {total}\n"
+    return (f"transactions {transactions}\ndeclined {declined}\nwrites {writes}\nbytes {size}\n"
+            f"rows {rows}\ntotal {total}\n"
             f"reads {len(whole)} whole {sum(whole)}\n").encode()
 
 
-# The summary of a count, by running its script: replies at any places add to what they are to add to.
+# The summary of a count, by running its script: replies at any places add to what they are to add
+# to.
 def summary_by_run(count):
     script, _ = reference.read_script(generated_script(count))
     reference.check_limits(script)
@@ -234,11 +246,14 @@ def summary_by_run(count):
     states, whole = meaning.States(txns), []
     for number, (_, block) in enumerate(script.reads):
         state = states.after(count * number // len(script.reads))
-        lines = [meaning.answer_line(meaning.names_and_types(script), line, state) for line in block]
+        lines = [meaning.answer_line(meaning.names_and_types(script), line, state)
+                 for line in block]
         whole.append(sum(int(line.split()[1]) for line in lines) in (0, TOTAL))
     last = states.after(count)
-    return summary(len(txns), sum(not changes for _, _, changes in txns), sum(len(changes) for _, _, changes in txns),
-                   len(reference.spelled(meaning.names_and_types(script), txns)), len(last), sum(row[0] for row in last.values()), whole)
+    return summary(len(txns), sum(not changes for _, _, changes in txns),
+                   sum(len(changes) for _, _, changes in txns),
+                   len(reference.spelled(meaning.names_and_types(script), txns)), len(last),
+                   sum(row[0] for row in last.values()), whole)
 
 
 def main():
