@@ -116,15 +116,16 @@ pub fn fed_whole<S: Source>(alloc: Global, source: &mut S, limit: usize) -> Resu
     Ok(decoder)
 }
 
-/// A decoder that was fed these bytes.
-pub fn decoder_of(alloc: Global, bytes: &[u8]) -> Result<Decoder, Refusal>
-    requires { length bytes.now ≤ max_log_bytes }
-    ensures ok { IfOk result (λ decoder. decoder ≡ bytes.now) }
+/// A decoder that has taken these bytes, without a copy.
+pub fn decoder_of(alloc: Global, bytes: Vec<u8>) -> Result<Decoder, Refusal>
+    requires { length bytes.items ≤ max_log_bytes }
+    ensures ok { IfOk result (λ decoder. decoder ≡ bytes.items) }
     ensures err { IfErr result (λ refusal. refusal ≡ Refusal.NoMemory) }
 {
-    let mut decoder = Decoder::new(alloc);
-    feed(&mut decoder, bytes)?;
-    Ok(decoder)
+    match Decoder::of_bytes(alloc, bytes) {
+        Ok(decoder) => Ok(decoder),
+        Err(_) => Err(Refusal::NoMemory),
+    }
 }
 
 /// The log that was fed, or its first fault.

@@ -88,7 +88,7 @@ pub fn decoded_run(alloc: Global, script: &Script, txns: &[Txn]) -> Result<LogBu
     ensures txns { IfOk result (λ log. log.txns ≡ txns.now) }
 {
     let bytes = bytes_of(alloc, script, txns)?;
-    let decoder = match decoder_of(alloc, &bytes) {
+    let decoder = match decoder_of(alloc, bytes) {
         Ok(decoder) => decoder,
         Err(_) => return Err(NoMemory),
     };

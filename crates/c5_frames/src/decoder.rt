@@ -9,7 +9,7 @@ ghost use Rattle.c5_definitions.specs.Items.{after_bytes, at_start};
 ghost use Rattle.c5_definitions.specs.Lawful.{Spells};
 ghost use Rattle.c5_frames.specs.Feeding.{Feeds, FinishesLog};
 ghost use Rattle.c5_frames.specs.Index.{HasRoom};
-ghost use Rattle.c5_frames.specs.DecoderStates.{Decodes, decoded_state};
+ghost use Rattle.c5_frames.specs.DecoderStates.{Decodes, IsReady, decoded_state};
 
 use crate::buffer::{LogBuffer, make_buffer, spells};
 use crate::decoder_state::DecoderState;
@@ -108,6 +108,40 @@ fn feed_piece(
     }
 }
 
+// Nothing has been read.
+fn first_state(alloc: Global) -> DecoderState
+    ensures decodes { Decodes [] result None }
+    ensures at { result.at ≡ 0 }
+{
+    DecoderState {
+        schema: None,
+        stage: Stage::Magic,
+        at: 0,
+        index: Index::new(alloc),
+    }
+}
+
+// Takes the memory for what the bytes can bring.
+fn first_state_for(alloc: Global, bytes: &[u8]) -> Result<DecoderState, NoMemory>
+    requires { length bytes.now ≤ max_log_bytes }
+    ensures { IfOk result (IsReady bytes.now) }
+{
+    let mut progress = first_state(alloc);
+    progress.index.reserve(bytes.len())?;
+    Ok(progress)
+}
+
+// Takes the items that are complete, and returns the fault that ends them.
+fn fault_in(bytes: &[u8], progress: &mut DecoderState) -> Option<LogFault>
+    requires { IsReady bytes.now progress.old }
+    ensures { Decodes bytes.now progress.new result }
+{
+    match take_items(bytes, progress) {
+        Ok(()) => None,
+        Err(found) => Some(found),
+    }
+}
+
 fn finish_log(bytes: Vec<u8>, progress: DecoderState) -> Result<LogBuffer, LogFault>
     requires { Decodes bytes.items progress None }
     ensures read { FinishesLog bytes.items result }
@@ -160,14 +194,24 @@ impl Decoder {
     {
         Decoder {
             bytes: Vec::new(alloc),
-            progress: DecoderState {
-                schema: None,
-                stage: Stage::Magic,
-                at: 0,
-                index: Index::new(alloc),
-            },
+            progress: first_state(alloc),
             fault: None,
         }
+    }
+
+    /// A decoder that has taken these bytes as one piece, without a copy. `finish` reports their
+    /// fault.
+    pub fn of_bytes(alloc: Global, bytes: Vec<u8>) -> Result<Self, NoMemory>
+        requires { length bytes.items ≤ max_log_bytes }
+        ensures { IfOk result (λ decoder. decoder ≡ bytes.items) }
+    {
+        let mut progress = first_state_for(alloc, &bytes)?;
+        let fault = fault_in(&bytes, &mut progress);
+        Ok(Decoder {
+            bytes,
+            progress,
+            fault,
+        })
     }
 
     /// The number of bytes that were fed.
