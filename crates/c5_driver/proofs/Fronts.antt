@@ -1,6 +1,6 @@
--- What follows a script is no longer than the whole.
-use Rattle.std.proofs.Common.{◌≡◌, ◌≤◌, ◌==◌, ℕ, zero, suc, Bool, true, false, List, [], ◌∷◌}
-use Rattle.std.proofs.Common.{length, Result, Ok, Err, ap, subst, arith}
+-- What follows a script is an end of the whole.
+use Rattle.std.proofs.Common.{◌≡◌, ◌≤◌, ◌-◌, ◌==◌, ℕ, zero, suc, Bool, true, false, List, [], ◌∷◌}
+use Rattle.std.proofs.Common.{length, drop, Result, Ok, Err, ap, refl, subst, arith, ◌∙◌}
 use Rattle.std.specs.Prelude.{if◌then◌else◌}
 use Rattle.c5_definitions.specs.Steps.{◌>>=◌}
 use Rattle.c5_definitions.specs.Lines.{behind_lines, lines_of}
@@ -9,31 +9,53 @@ use Rattle.c5_definitions.specs.ScriptSoFar.{script_start}
 use Rattle.c5_definitions.specs.Script.{front_from, front_of}
 use Rattle.c5_definitions.specs.declared.script.ScriptFault.{ScriptFault}
 
-either-short : (b : Bool) (x y : List ℕ) (n : ℕ) → length x ≤ n → length y ≤ n
-    → length (if b then x else y) ≤ suc n
-either-short true x y n h k = omega arith
-either-short false x y n h k = omega arith
+-- the second list is the end of the first
+pub record IsEnd (bytes rest : List ℕ) : Type 0 where
+  pub short : length rest ≤ length bytes
+  pub is : drop (length bytes - length rest) bytes ≡ rest
 
-behind-short : (n : ℕ) (bytes : List ℕ) → length (behind_lines n bytes) ≤ length bytes
+none-before : (bytes : List ℕ) → IsEnd bytes bytes
+none-before bytes = record {
+  short = omega arith;
+  is = ap (λ (n : ℕ). drop n bytes) (omega arith : length bytes - length bytes ≡ 0);
+}
+
+one-before : (byte : ℕ) (bytes rest : List ℕ) → IsEnd bytes rest → IsEnd (byte ∷ bytes) rest
+one-before byte bytes rest end =
+    let short = end.short in
+    record {
+      short = omega (arith, short);
+      is = ap (λ (n : ℕ). drop n (byte ∷ bytes))
+          (omega (arith, short) : length (byte ∷ bytes) - length rest
+          ≡ suc (length bytes - length rest)) ∙ end.is;
+    }
+
+either-end : (b : Bool) (byte : ℕ) (bytes x y : List ℕ) → IsEnd bytes x → IsEnd bytes y
+    → IsEnd (byte ∷ bytes) (if b then x else y)
+either-end true byte bytes x y h k = one-before byte bytes x h
+either-end false byte bytes x y h k = one-before byte bytes y k
+
+behind-end : (n : ℕ) (bytes : List ℕ) → IsEnd bytes (behind_lines n bytes)
 unfolding behind_lines
-behind-short zero bytes = omega arith
-behind-short (suc n) [] = omega arith
-behind-short (suc n) (byte ∷ bytes) =
-    either-short (byte == 10) (behind_lines n bytes) (behind_lines (suc n) bytes) (length bytes)
-    (behind-short n bytes) (behind-short (suc n) bytes)
+behind-end zero bytes = none-before bytes
+behind-end (suc n) [] = none-before []
+behind-end (suc n) (byte ∷ bytes) =
+    either-end (byte == 10) byte bytes (behind_lines n bytes) (behind_lines (suc n) bytes)
+    (behind-end n bytes) (behind-end (suc n) bytes)
 
-abbrev rest_of : Result (ScriptParts × List ℕ) ScriptFault → List ℕ
-rest_of (Ok front) = front.1
-rest_of (Err fault) = []
+-- what follows the script that was read, or else the bytes
+abbrev rest_of : List ℕ → Result (ScriptParts × List ℕ) ScriptFault → List ℕ
+rest_of bytes (Ok front) = front.1
+rest_of bytes (Err fault) = bytes
 
-rest-short : (bytes : List ℕ) (read : Result (ScriptParts × ℕ) ScriptFault)
-    → length (rest_of (read >>= λ front. Ok (front.0, behind_lines front.1 bytes))) ≤ length bytes
-rest-short bytes (Ok front) = behind-short front.1 bytes
-rest-short bytes (Err fault) = omega arith
+rest-end : (bytes : List ℕ) (read : Result (ScriptParts × ℕ) ScriptFault)
+    → IsEnd bytes (rest_of bytes (read >>= λ front. Ok (front.0, behind_lines front.1 bytes)))
+rest-end bytes (Ok front) = behind-end front.1 bytes
+rest-end bytes (Err fault) = none-before bytes
 
-pub front-short : (bytes rest : List ℕ) (script : ScriptParts) → front_of bytes ≡ Ok (script, rest)
-    → length rest ≤ length bytes
+pub front-end : (bytes rest : List ℕ) (script : ScriptParts) → front_of bytes ≡ Ok (script, rest)
+    → IsEnd bytes rest
 unfolding front_of
-front-short bytes rest script e =
-    subst (λ (r : List ℕ). length r ≤ length bytes) (ap rest_of e)
-    (rest-short bytes (front_from 1 script_start (lines_of bytes)))
+front-end bytes rest script e =
+    subst (IsEnd bytes) (ap (rest_of bytes) e)
+    (rest-end bytes (front_from 1 script_start (lines_of bytes)))

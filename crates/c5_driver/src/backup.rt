@@ -1,13 +1,14 @@
 //! The command `backup`: the replies to a script's reads over a log, and the rows.
 
-ghost use Rattle.std.specs.Prelude.{◌≡◌, ◌≤◌, ◌++◌, [], None, true, length, option_map};
-ghost use Rattle.std.specs.Prelude.{IfOk, IfErr, OnOk};
+ghost use Rattle.std.specs.Prelude.{◌≡◌, ◌≤◌, ◌++◌, [], None, true, length, drop, option_map};
+ghost use Rattle.std.specs.Prelude.{Ok, IfOk, IfErr, OnOk};
 ghost use Rattle.std.specs.List.{All, flat_map};
 ghost use Rattle.c5_rows.specs.Sizes.{max_log_bytes};
 ghost use Rattle.c5_rows.specs.declared.answer.Reply.{Reply as ReplyValue};
 ghost use Rattle.c5_definitions.specs.Items.{log_of};
 ghost use Rattle.c5_definitions.specs.Lawful.{Spells};
 ghost use Rattle.c5_definitions.specs.Outputs.{reply_text};
+ghost use Rattle.c5_definitions.specs.Script.{front_of};
 ghost use Rattle.c5_definitions.specs.Texts.{rows_text};
 ghost use Rattle.c5_driver.specs.Backups.{AreScriptAndLog, IsLogOver};
 ghost use Rattle.c5_driver.specs.Inputs.{IsRefusedBy};
@@ -44,11 +45,11 @@ fn have_same_tables(schema: &Schema, log: &LogBuffer) -> bool
 }
 
 // The log of these bytes, if its tables are those of the schema.
-fn log_over(alloc: Global, schema: &Schema, bytes: &[u8]) -> Result<LogBuffer, Refusal>
-    requires { length bytes.now ≤ max_log_bytes }
-    ensures log { IfOk result (λ log. IsLogOver schema.now bytes.now log) }
+fn log_over(alloc: Global, schema: &Schema, bytes: Vec<u8>) -> Result<LogBuffer, Refusal>
+    requires { length bytes.items ≤ max_log_bytes }
+    ensures log { IfOk result (λ log. IsLogOver schema.now bytes.items log) }
     ensures refused { IfErr result
-        (λ refusal. IsRefusedBy (log_refusal_over schema.now bytes.now) refusal) }
+        (λ refusal. IsRefusedBy (log_refusal_over schema.now bytes.items) refusal) }
 {
     let decoder = decoder_of(alloc, bytes)?;
     let log = log_in(decoder)?;
@@ -62,20 +63,41 @@ fn log_over(alloc: Global, schema: &Schema, bytes: &[u8]) -> Result<LogBuffer, R
     }
 }
 
-// The script of these bytes and the log that follows it, or why they are refused.
-fn script_and_log(alloc: Global, bytes: &[u8]) -> Result<(Script, LogBuffer), Refusal>
+// The script that the bytes begin with, and how many bytes it has; or why it is refused.
+fn script_of(alloc: Global, bytes: &[u8]) -> Result<(Script, usize), Refusal>
     requires { length bytes.now ≤ max_log_bytes }
-    ensures read { IfOk result (λ r. AreScriptAndLog bytes.now r.0 r.1) }
+    ensures read { IfOk result (λ r. front_of bytes.now ≡ Ok (r.0, drop r.1 bytes.now)) }
+    ensures within { IfOk result (λ r. r.1 ≤ length bytes.now) }
     ensures refused { IfErr result (λ refusal. IsRefusedBy (backup_refusal bytes.now) refusal) }
 {
     match parse_front(alloc, bytes) {
         Ok(front) => {
-            let log = log_over(alloc, front.script.schema(), front.rest)?;
-            Ok((front.script, log))
+            let rest = front.rest.len();
+            Ok((front.script, bytes.len() - rest))
         }
         Err(ParseFault::Bad(fault)) => Err(Refusal::BadScript(fault)),
         Err(ParseFault::NoMemory) => Err(Refusal::NoMemory),
     }
+}
+
+// The bytes after the first `count`, at the same place in memory.
+fn after(mut bytes: Vec<u8>, count: usize) -> Vec<u8>
+    requires { count ≤ length bytes.items }
+    ensures { result.items ≡ drop count bytes.items }
+{
+    drop(bytes.drain(..count));
+    bytes
+}
+
+// The script of these bytes and the log that follows it, or why they are refused.
+fn script_and_log(alloc: Global, bytes: Vec<u8>) -> Result<(Script, LogBuffer), Refusal>
+    requires { length bytes.items ≤ max_log_bytes }
+    ensures read { IfOk result (λ r. AreScriptAndLog bytes.items r.0 r.1) }
+    ensures refused { IfErr result (λ refusal. IsRefusedBy (backup_refusal bytes.items) refusal) }
+{
+    let (script, count) = script_of(alloc, &bytes)?;
+    let log = log_over(alloc, script.schema(), after(bytes, count))?;
+    Ok((script, log))
 }
 
 // The text of what a replay gave, with each reply at a place of at most `total`.
@@ -123,8 +145,7 @@ fn text_over<R: Threads + Sync>(
     }
 }
 
-// The replies and the rows over a script and the log that follows it, or why they are refused. The
-// bytes are dropped before the log is replayed.
+// The replies and the rows over a script and the log that follows it, or why they are refused.
 fn text_of_backup<R: Threads + Sync>(
     rt: &R,
     alloc: Global,
@@ -137,11 +158,10 @@ fn text_of_backup<R: Threads + Sync>(
     ensures accepted { OnOk result (backup_refusal bytes.items ≡ None) }
     ensures refused { IfErr result (λ refusal. IsRefusedBy (backup_refusal bytes.items) refusal) }
 {
-    let (script, log) = match script_and_log(alloc, &bytes) {
+    let (script, log) = match script_and_log(alloc, bytes) {
         Ok(read) => read,
         Err(refusal) => return Err(refusal),
     };
-    drop(bytes);
     text_over(rt, alloc, &script, log, options)
 }
 

@@ -1,0 +1,3 @@
+use Rattle.std.proofs.Common.{arith}
+use Rattle.c5_driver.proofs.Fronts.{front-end}
+use Rattle.c5_driver.proofs.backup.script_of.Goals as goal
