@@ -107,4 +107,14 @@ unfolding digits_after magnitude_of int_of_digits turn_number_of new_name_in typ
     copy_words form_of statement_words statement_line row_words sum_words question_line end_line
     inside_line known_line after_line log_line after_front_line is_closed lines_of behind_lines
     words_at words_of script_from script_of front_from front_of
-returns-clause-limits c = (refl, (refl, (refl, (refl, (refl, tt)))))
+returns-clause-limits c = (refl, (refl, (refl, (refl, (refl, (refl, tt))))))
+
+pub returns-clause-turns : goal.returns-clause-turns
+unfolding digits_after magnitude_of int_of_digits turn_number_of new_name_in type_in table_in key_in
+    row_name_in int_in cell_in int_column_of column_in rel_in session_in turn_in each_in cells_in
+    row_in new_table table_words table_line heading_line txn_words read_words read_line turns_words
+    turns_line standing_line outside_line put_statement put_words del_words need_words add_words
+    copy_words form_of statement_words statement_line row_words sum_words question_line end_line
+    inside_line known_line after_line log_line after_front_line is_closed lines_of behind_lines
+    words_at words_of script_from script_of front_from front_of
+returns-clause-turns c = (refl, (refl, (refl, (refl, tt))))
