@@ -93,10 +93,10 @@ text-other come byte bytes e = grind (arith, common_steps, e)
 blank-text : (byte : ℕ) → byte ≡ 32 → is_text_byte byte ≡ true
 blank-text byte e = rw e refl
 
-behind-blank : (byte : ℕ) (bytes : List ℕ) → byte ≡ 32
+after-blank : (byte : ℕ) (bytes : List ℕ) → byte ≡ 32
     → words_at behind_quoted (byte ∷ bytes) ≡ words_at between bytes
 unfolding words_at
-behind-blank byte bytes e = rw e refl
+after-blank byte bytes e = rw e refl
 
 -- ---- what is written is read
 
@@ -200,7 +200,7 @@ written-read words line is = rw (allowed-all words line is) (read-all words line
 
 -- ---- what is read was written
 
--- the words from here on, where a bare word or a text of which some bytes have come goes on
+-- the words from here on, inside a bare word or a text of which these bytes have come
 record BareGoesOn (come : List ℕ) (words : List Word) (line : List ℕ) : Type 0 where
   more : List ℕ
   rest : List ℕ
@@ -254,15 +254,15 @@ first_word : (word : Word) (words : Result (List Word) ScriptKind) (all : List W
 first_word word (Ok others) all e = (others, refl, cc)
 first_word word (Err kind) all e = absurd cc
 
-behind-quote : (byte : ℕ) (bytes : List ℕ) → byte ≡ 34
+after-quote : (byte : ℕ) (bytes : List ℕ) → byte ≡ 34
     → words_at behind_quoted (byte ∷ bytes) ≡ Err kinds.Quote
 unfolding words_at
-behind-quote byte bytes e = rw e refl
+after-quote byte bytes e = rw e refl
 
-behind-other : (byte : ℕ) (bytes : List ℕ) → is_key_byte byte ≡ true
+after-other : (byte : ℕ) (bytes : List ℕ) → is_key_byte byte ≡ true
     → words_at behind_quoted (byte ∷ bytes) ≡ Err kinds.Quote
 unfolding words_at
-behind-other byte bytes e = grind (arith, common_steps, e)
+after-other byte bytes e = grind (arith, common_steps, e)
 
 start_bare : (byte : ℕ) (bytes : List ℕ) (words : List Word) → is_key_byte byte ≡ true
     → BareGoesOn (byte ∷ []) words bytes → IsLineOf words (byte ∷ bytes)
@@ -423,10 +423,10 @@ read (byte ∷ bytes) behind_quoted words allowed e =
       | blank is ↦ (
         rw is refl,
         one_blank_more byte words bytes is
-            (read bytes between words a.1 (sym (behind-blank byte bytes is) ∙ e)),
+            (read bytes between words a.1 (sym (after-blank byte bytes is) ∙ e)),
       )
-      | quote is ↦ let clash = sym (behind-quote byte bytes is) ∙ e in absurd cc
-      | other is ↦ let clash = sym (behind-other byte bytes is) ∙ e in absurd cc
+      | quote is ↦ let clash = sym (after-quote byte bytes is) ∙ e in absurd cc
+      | other is ↦ let clash = sym (after-other byte bytes is) ∙ e in absurd cc
     ]
 
 words_from : (line : List ℕ) (words : List Word) (b : Bool) → list_all is_line_byte line ≡ b
@@ -462,24 +462,24 @@ line-last byte (next ∷ line) is =
     let p = both (not (eqb byte 10)) (list_all (λ b. not (eqb b 10)) (next ∷ line)) is in
     rw (not_end byte p.0) (ap (onto_first byte) (line-last next line p.1))
 
-lines-front : (lines : List (List ℕ)) (rest : List ℕ) → AllByRecursion IsLine lines
+lines-prefix : (lines : List (List ℕ)) (rest : List ℕ) → AllByRecursion IsLine lines
     → lines_of (ended_lines lines ++ rest) ≡ lines ++ lines_of rest
-lines-front [] rest each = refl
-lines-front (line ∷ lines) rest each =
+lines-prefix [] rest each = refl
+lines-prefix (line ∷ lines) rest each =
     let regrouped : (((line ++ 10 ∷ []) ++ ended_lines lines) ++ rest)
     ≡ line ++ 10 ∷ (ended_lines lines ++ rest) = simp append_assoc in
     ap lines_of regrouped ∙ line-first line (ended_lines lines ++ rest) each.0 ∙ ap
-    (λ (ls : List (List ℕ)). line ∷ ls) (lines-front lines rest each.1)
+    (λ (ls : List (List ℕ)). line ∷ ls) (lines-prefix lines rest each.1)
 
 pub lines-ended : (lines : List (List ℕ)) → AllByRecursion IsLine lines
     → lines_of (ended_lines lines) ≡ lines
 unfolding lines_of
 lines-ended lines each = ap lines_of
-    (sym (append-nil (ended_lines lines))) ∙ lines-front lines [] each ∙ append-nil lines
+    (sym (append-nil (ended_lines lines))) ∙ lines-prefix lines [] each ∙ append-nil lines
 
 pub lines-open : (lines : List (List ℕ)) (last : List ℕ) → AllByRecursion IsLine lines → IsLine last
     → 1 ≤ length last → lines_of (ended_lines lines ++ last) ≡ lines ++ last ∷ []
 lines-open lines [] each is some = absurd (omega arith)
 lines-open lines (byte ∷ last) each is some =
-    lines-front lines (byte ∷ last) each ∙ ap (λ (ls : List (List ℕ)). lines ++ ls)
+    lines-prefix lines (byte ∷ last) each ∙ ap (λ (ls : List (List ℕ)). lines ++ ls)
     (line-last byte last is)
