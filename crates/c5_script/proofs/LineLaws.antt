@@ -38,7 +38,7 @@ unfolding behind_lines
 behind-no_end [] h = refl
 behind-no_end (byte ∷ bytes) h = grind (arith, common_steps, behind-no_end bytes)
 
--- ---- the first place where a line end stands is the one that a search for it gives
+-- ---- the first line end is at the place that a search for it gives
 
 not_true : (b : Bool) → ¬ (b ≡ true) → b ≡ false
 not_true true never = absurd (never refl)
