@@ -3,7 +3,7 @@ use Rattle.std.proofs.Common.{◌≡◌, ◌≤◌, ◌==◌, ℕ, zero, suc, Bo
 use Rattle.std.proofs.Common.{length, Result, Ok, Err, ap, subst, arith}
 use Rattle.std.specs.Prelude.{if◌then◌else◌}
 use Rattle.c5_definitions.specs.Steps.{◌>>=◌}
-use Rattle.c5_definitions.specs.Lines.{behind_lines, lines_of}
+use Rattle.c5_definitions.specs.Lines.{after_lines, lines_of}
 use Rattle.c5_definitions.specs.ScriptParts.{ScriptParts}
 use Rattle.c5_definitions.specs.ScriptSoFar.{script_start}
 use Rattle.c5_definitions.specs.Script.{front_from, front_of}
@@ -14,12 +14,12 @@ either-short : (b : Bool) (x y : List ℕ) (n : ℕ) → length x ≤ n → leng
 either-short true x y n h k = omega arith
 either-short false x y n h k = omega arith
 
-behind-short : (n : ℕ) (bytes : List ℕ) → length (behind_lines n bytes) ≤ length bytes
-unfolding behind_lines
+behind-short : (n : ℕ) (bytes : List ℕ) → length (after_lines n bytes) ≤ length bytes
+unfolding after_lines
 behind-short zero bytes = omega arith
 behind-short (suc n) [] = omega arith
 behind-short (suc n) (byte ∷ bytes) =
-    either-short (byte == 10) (behind_lines n bytes) (behind_lines (suc n) bytes) (length bytes)
+    either-short (byte == 10) (after_lines n bytes) (after_lines (suc n) bytes) (length bytes)
     (behind-short n bytes) (behind-short (suc n) bytes)
 
 abbrev rest_of : Result (ScriptParts × List ℕ) ScriptFault → List ℕ
@@ -27,7 +27,7 @@ rest_of (Ok front) = front.1
 rest_of (Err fault) = []
 
 rest-short : (bytes : List ℕ) (read : Result (ScriptParts × ℕ) ScriptFault)
-    → length (rest_of (read >>= λ front. Ok (front.0, behind_lines front.1 bytes))) ≤ length bytes
+    → length (rest_of (read >>= λ front. Ok (front.0, after_lines front.1 bytes))) ≤ length bytes
 rest-short bytes (Ok front) = behind-short front.1 bytes
 rest-short bytes (Err fault) = omega arith
 
