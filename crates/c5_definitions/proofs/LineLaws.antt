@@ -11,7 +11,7 @@ use Rattle.c5_definitions.specs.declared.script.ScriptKind.{ScriptKind}
 use Rattle.c5_definitions.specs.declared.script.ScriptKind.TheVariants as kinds
 use Rattle.c5_definitions.specs.Words.{Word, bare, quoted}
 use Rattle.c5_definitions.specs.Lines.{lines_of, LinePart, between, in_bare, in_quoted}
-use Rattle.c5_definitions.specs.Lines.{behind_quoted, is_word_end, is_line_byte, with_word}
+use Rattle.c5_definitions.specs.Lines.{after_quoted, is_word_end, is_line_byte, with_word}
 use Rattle.c5_definitions.specs.Lines.{words_at, words_of}
 use Rattle.c5_definitions.specs.LineGrammar.{IsLine, ended_lines, IsBlank, IsWord, spelled_word}
 use Rattle.c5_definitions.specs.LineGrammar.{IsLineOf}
@@ -81,7 +81,7 @@ bare-other come byte bytes e = grind (arith, common_steps, e)
 
 text-quote : (come : List ℕ) (byte : ℕ) (bytes : List ℕ) → byte ≡ 34
     → words_at (in_quoted come) (byte ∷ bytes)
-    ≡ with_word (quoted come) (words_at behind_quoted bytes)
+    ≡ with_word (quoted come) (words_at after_quoted bytes)
 unfolding words_at
 text-quote come byte bytes e = rw e refl
 
@@ -93,10 +93,10 @@ text-other come byte bytes e = grind (arith, common_steps, e)
 blank-text : (byte : ℕ) → byte ≡ 32 → is_text_byte byte ≡ true
 blank-text byte e = rw e refl
 
-behind-blank : (byte : ℕ) (bytes : List ℕ) → byte ≡ 32
-    → words_at behind_quoted (byte ∷ bytes) ≡ words_at between bytes
+after-blank : (byte : ℕ) (bytes : List ℕ) → byte ≡ 32
+    → words_at after_quoted (byte ∷ bytes) ≡ words_at between bytes
 unfolding words_at
-behind-blank byte bytes e = rw e refl
+after-blank byte bytes e = rw e refl
 
 -- ---- what is written is read
 
@@ -124,16 +124,16 @@ read-bare_end word (byte ∷ rest) e = grind (arith, common_steps, e)
 
 read-text : (come text rest : List ℕ) → list_all is_text_byte text ≡ true
     → words_at (in_quoted come) (text ++ 34 ∷ rest)
-    ≡ with_word (quoted (come ++ text)) (words_at behind_quoted rest)
+    ≡ with_word (quoted (come ++ text)) (words_at after_quoted rest)
 read-text come [] rest e = rw append-nil (text-quote come 34 rest refl)
 read-text come (byte ∷ text) rest e =
     let p = both (is_text_byte byte) (list_all is_text_byte text) e in
     text-other come byte (text ++ 34 ∷ rest) p.0 ∙ read-text (come ++ byte ∷ []) text rest p.1 ∙ ap
-    (λ (w : List ℕ). with_word (quoted w) (words_at behind_quoted rest))
+    (λ (w : List ℕ). with_word (quoted w) (words_at after_quoted rest))
     (append_assoc come (byte ∷ []) text)
 
 read-text_end : (rest : List ℕ) → is_word_end rest ≡ true
-    → words_at behind_quoted rest ≡ words_at between rest
+    → words_at after_quoted rest ≡ words_at between rest
 unfolding words_at
 read-text_end [] e = refl
 read-text_end (byte ∷ rest) e = grind (arith, common_steps, e)
@@ -200,7 +200,7 @@ written-read words line is = rw (allowed-all words line is) (read-all words line
 
 -- ---- what is read was written
 
--- the words from here on, where a bare word or a text of which some bytes have come goes on
+-- the words from here on, inside a bare word or a text of which these bytes have come
 record BareGoesOn (come : List ℕ) (words : List Word) (line : List ℕ) : Type 0 where
   more : List ℕ
   rest : List ℕ
@@ -225,7 +225,7 @@ abbrev GoesOn : LinePart → List Word → List ℕ → Type 0
 GoesOn between words line = IsLineOf words line
 GoesOn (in_bare come) words line = BareGoesOn come words line
 GoesOn (in_quoted come) words line = TextGoesOn come words line
-GoesOn behind_quoted words line = (is_word_end line ≡ true) × IsLineOf words line
+GoesOn after_quoted words line = (is_word_end line ≡ true) × IsLineOf words line
 
 no_words : (words : List Word) → [] ≡ words → IsLineOf words []
 unfolding IsLineOf
@@ -254,15 +254,15 @@ first_word : (word : Word) (words : Result (List Word) ScriptKind) (all : List W
 first_word word (Ok others) all e = (others, refl, cc)
 first_word word (Err kind) all e = absurd cc
 
-behind-quote : (byte : ℕ) (bytes : List ℕ) → byte ≡ 34
-    → words_at behind_quoted (byte ∷ bytes) ≡ Err kinds.Quote
+after-quote : (byte : ℕ) (bytes : List ℕ) → byte ≡ 34
+    → words_at after_quoted (byte ∷ bytes) ≡ Err kinds.Quote
 unfolding words_at
-behind-quote byte bytes e = rw e refl
+after-quote byte bytes e = rw e refl
 
-behind-other : (byte : ℕ) (bytes : List ℕ) → is_key_byte byte ≡ true
-    → words_at behind_quoted (byte ∷ bytes) ≡ Err kinds.Quote
+after-other : (byte : ℕ) (bytes : List ℕ) → is_key_byte byte ≡ true
+    → words_at after_quoted (byte ∷ bytes) ≡ Err kinds.Quote
 unfolding words_at
-behind-other byte bytes e = grind (arith, common_steps, e)
+after-other byte bytes e = grind (arith, common_steps, e)
 
 start_bare : (byte : ℕ) (bytes : List ℕ) (words : List Word) → is_key_byte byte ≡ true
     → BareGoesOn (byte ∷ []) words bytes → IsLineOf words (byte ∷ bytes)
@@ -341,12 +341,12 @@ bare_ends come words e =
     }
 
 no_more_words : (place : LinePart) (words : List Word) → words_at place [] ≡ Ok words
-    → place ≡ between ⊎ place ≡ behind_quoted → IsLineOf words []
+    → place ≡ between ⊎ place ≡ after_quoted → IsLineOf words []
 unfolding words_at
 no_more_words between words e p = no_words words cc
 no_more_words (in_bare come) words e p = absurd (elim p [ inl f ↦ cc | inr f ↦ cc ])
 no_more_words (in_quoted come) words e p = absurd (elim p [ inl f ↦ cc | inr f ↦ cc ])
-no_more_words behind_quoted words e p = no_words words cc
+no_more_words after_quoted words e p = no_words words cc
 
 text_stays_open : (come : List ℕ) (words : List Word) → words_at (in_quoted come) [] ≡ Ok words → ⊥
 unfolding words_at
@@ -357,7 +357,7 @@ read : (line : List ℕ) (place : LinePart) (words : List Word) → list_all is_
 read [] between words allowed e = no_more_words between words e (inl refl)
 read [] (in_bare come) words allowed e = bare_ends come words e
 read [] (in_quoted come) words allowed e = absurd (text_stays_open come words e)
-read [] behind_quoted words allowed e = (refl, no_more_words behind_quoted words e (inr refl))
+read [] after_quoted words allowed e = (refl, no_more_words after_quoted words e (inr refl))
 read (byte ∷ bytes) between words allowed e =
     let a = both (is_line_byte byte) (list_all is_line_byte bytes) allowed in
     elim (kind_of byte a.0) [
@@ -398,9 +398,9 @@ read (byte ∷ bytes) (in_quoted come) words allowed e =
           (read bytes (in_quoted (come ++ byte ∷ [])) words a.1
           (sym (text-other come byte bytes t) ∙ e))
       | quote is ↦
-          let f = first_word (quoted come) (words_at behind_quoted bytes) words
+          let f = first_word (quoted come) (words_at after_quoted bytes) words
           (sym (text-quote come byte bytes is) ∙ e) in
-          let g = read bytes behind_quoted f.0 a.1 f.1 in
+          let g = read bytes after_quoted f.0 a.1 f.1 in
           record {
             more = [];
             rest = bytes;
@@ -417,16 +417,16 @@ read (byte ∷ bytes) (in_quoted come) words allowed e =
           (read bytes (in_quoted (come ++ byte ∷ [])) words a.1
           (sym (text-other come byte bytes t) ∙ e))
     ]
-read (byte ∷ bytes) behind_quoted words allowed e =
+read (byte ∷ bytes) after_quoted words allowed e =
     let a = both (is_line_byte byte) (list_all is_line_byte bytes) allowed in
     elim (kind_of byte a.0) [
       | blank is ↦ (
         rw is refl,
         one_blank_more byte words bytes is
-            (read bytes between words a.1 (sym (behind-blank byte bytes is) ∙ e)),
+            (read bytes between words a.1 (sym (after-blank byte bytes is) ∙ e)),
       )
-      | quote is ↦ let clash = sym (behind-quote byte bytes is) ∙ e in absurd cc
-      | other is ↦ let clash = sym (behind-other byte bytes is) ∙ e in absurd cc
+      | quote is ↦ let clash = sym (after-quote byte bytes is) ∙ e in absurd cc
+      | other is ↦ let clash = sym (after-other byte bytes is) ∙ e in absurd cc
     ]
 
 words_from : (line : List ℕ) (words : List Word) (b : Bool) → list_all is_line_byte line ≡ b
@@ -462,24 +462,24 @@ line-last byte (next ∷ line) is =
     let p = both (not (eqb byte 10)) (list_all (λ b. not (eqb b 10)) (next ∷ line)) is in
     rw (not_end byte p.0) (ap (onto_first byte) (line-last next line p.1))
 
-lines-front : (lines : List (List ℕ)) (rest : List ℕ) → AllByRecursion IsLine lines
+lines-prefix : (lines : List (List ℕ)) (rest : List ℕ) → AllByRecursion IsLine lines
     → lines_of (ended_lines lines ++ rest) ≡ lines ++ lines_of rest
-lines-front [] rest each = refl
-lines-front (line ∷ lines) rest each =
+lines-prefix [] rest each = refl
+lines-prefix (line ∷ lines) rest each =
     let regrouped : (((line ++ 10 ∷ []) ++ ended_lines lines) ++ rest)
     ≡ line ++ 10 ∷ (ended_lines lines ++ rest) = simp append_assoc in
     ap lines_of regrouped ∙ line-first line (ended_lines lines ++ rest) each.0 ∙ ap
-    (λ (ls : List (List ℕ)). line ∷ ls) (lines-front lines rest each.1)
+    (λ (ls : List (List ℕ)). line ∷ ls) (lines-prefix lines rest each.1)
 
 pub lines-ended : (lines : List (List ℕ)) → AllByRecursion IsLine lines
     → lines_of (ended_lines lines) ≡ lines
 unfolding lines_of
 lines-ended lines each = ap lines_of
-    (sym (append-nil (ended_lines lines))) ∙ lines-front lines [] each ∙ append-nil lines
+    (sym (append-nil (ended_lines lines))) ∙ lines-prefix lines [] each ∙ append-nil lines
 
 pub lines-open : (lines : List (List ℕ)) (last : List ℕ) → AllByRecursion IsLine lines → IsLine last
     → 1 ≤ length last → lines_of (ended_lines lines ++ last) ≡ lines ++ last ∷ []
 lines-open lines [] each is some = absurd (omega arith)
 lines-open lines (byte ∷ last) each is some =
-    lines-front lines (byte ∷ last) each ∙ ap (λ (ls : List (List ℕ)). lines ++ ls)
+    lines-prefix lines (byte ∷ last) each ∙ ap (λ (ls : List (List ℕ)). lines ++ ls)
     (line-last byte last is)

@@ -46,9 +46,9 @@ one_itself : (a : Option RowName) (name : RowName) → a ≡ Some name → are_o
 one_itself None name e = absurd (cc)
 one_itself (Some a) name e = ap is_eq (tied_itself row_name_cmp_total a)
 
-named_from : (a b : Option RowName) → are_one a b ≡ true → (name : RowName) × (a ≡ Some name)
-named_from None b e = absurd (true≢false (sym e))
-named_from (Some a) b e = (a, refl)
+name_from : (a b : Option RowName) → are_one a b ≡ true → (name : RowName) × (a ≡ Some name)
+name_from None b e = absurd (true≢false (sym e))
+name_from (Some a) b e = (a, refl)
 
 inside : (names : List RowName) (i : ℕ) (name : RowName) → slice_get names i ≡ Some name
     → i < length names
@@ -63,9 +63,9 @@ element (n ∷ ns) zero h = (n, refl)
 element (n ∷ ns) (suc i) h = element ns i (omega arith)
 
 module _ (names : List RowName) where
-  pub named : (w : ℕ) → IsWrite names w → (name : RowName) × (name_at names w ≡ Some name)
-  named zero is = let h = is.positive in absurd (omega arith)
-  named (suc i) is = let h = is.within in element names i (omega arith)
+  pub has_name : (w : ℕ) → IsWrite names w → (name : RowName) × (name_at names w ≡ Some name)
+  has_name zero is = let h = is.positive in absurd (omega arith)
+  has_name (suc i) is = let h = is.within in element names i (omega arith)
 
   write_from : (w : ℕ) (name : RowName) → name_at names w ≡ Some name → IsWrite names w
   write_from zero name e = absurd (cc)
@@ -75,7 +75,7 @@ module _ (names : List RowName) where
   on_row : (v w : ℕ) → IsWrite names v → name_at names v ≡ name_at names w
       → are_on_one_row names v w ≡ true
   unfolding are_on_one_row
-  on_row v w is e = let n = named v is in
+  on_row v w is e = let n = has_name v is in
       subst (λ (o : Option RowName). are_one (name_at names v) o ≡ true) e
       (one_itself (name_at names v) n.0 n.1)
 
@@ -85,7 +85,7 @@ module _ (names : List RowName) where
 
   is_write : (v w : ℕ) → are_on_one_row names v w ≡ true → IsWrite names v
   unfolding are_on_one_row
-  is_write v w e = let n = named_from (name_at names v) (name_at names w) e in write_from v n.0 n.1
+  is_write v w e = let n = name_from (name_at names v) (name_at names w) e in write_from v n.0 n.1
 
   -- ---- rows
 
@@ -148,7 +148,7 @@ module _ (names : List RowName) where
   rows_are_numbered = record {
     first = row-first;
     not_above = row-not_above;
-    named = named;
+    has_name = has_name;
     one_name = row-one_name;
     one_row = row-one_row;
   }

@@ -57,15 +57,15 @@ regroup : (a b c d e f g h i : List ℕ) → ((((((a ++ b) ++ c) ++ d) ++ e) ++ 
 regroup a b c d e f g h i = simp append_assoc
 
 -- the place is the second number of the head
-abbrev behind_place : List TableDef → ℕ → Reply → List ℕ → List ℕ
-behind_place tables total reply s = codes " lag"
+abbrev after_place : List TableDef → ℕ → Reply → List ℕ → List ℕ
+after_place tables total reply s = codes " lag"
     ++ (number_text (total - reply.place)
     ++ ((10 ∷ []) ++ (flat_map (λ line. answer_line tables line ++ 10 ∷ []) reply.answer ++ s)))
 
 reply-parts : (tables : List TableDef) (total : ℕ) (reply : Reply) (s : List ℕ)
     → reply_text tables total reply ++ s
     ≡ ((codes "read" ++ number_text reply.session) ++ codes " place")
-    ++ (number_text reply.place ++ behind_place tables total reply s)
+    ++ (number_text reply.place ++ after_place tables total reply s)
 reply-parts tables total reply s =
     regroup (codes "read") (number_text reply.session) (codes " place") (number_text reply.place)
     (codes " lag") (number_text (total - reply.place)) (10 ∷ [])
@@ -75,15 +75,15 @@ place-cut : (tables : List TableDef) (total : ℕ) (a b : Reply) (s t : List ℕ
     → a.session ≡ b.session → a.place < 2 ^ 64 → b.place < 2 ^ 64
     → reply_text tables total a ++ s ≡ reply_text tables total b ++ t → a.place ≡ b.place
 place-cut tables total a b s t same small_a small_b e =
-    let front = (codes "read" ++ number_text a.session) ++ codes " place" in
-    let fronts : (codes "read" ++ number_text b.session) ++ codes " place" ≡ front =
+    let prefix = (codes "read" ++ number_text a.session) ++ codes " place" in
+    let prefixes : (codes "read" ++ number_text b.session) ++ codes " place" ≡ prefix =
     ap (λ (n : ℕ). (codes "read" ++ number_text n) ++ codes " place") (sym same) in
     let whole = sym (reply-parts tables total a s) ∙ e ∙ reply-parts tables total b t ∙ ap
-    (λ (f : List ℕ). f ++ (number_text b.place ++ behind_place tables total b t)) fronts in
-    let rest = append_cancel_left front (number_text a.place ++ behind_place tables total a s)
-    (number_text b.place ++ behind_place tables total b t) whole in
-    (number-cut a.place b.place (behind_place tables total a s)
-    (behind_place tables total b t) small_a small_b (omega arith) (omega arith) rest).0
+    (λ (f : List ℕ). f ++ (number_text b.place ++ after_place tables total b t)) prefixes in
+    let rest = append_cancel_left prefix (number_text a.place ++ after_place tables total a s)
+    (number_text b.place ++ after_place tables total b t) whole in
+    (number-cut a.place b.place (after_place tables total a s)
+    (after_place tables total b t) small_a small_b (omega arith) (omega arith) rest).0
 
 replies-cut : (tables : List TableDef) (total : ℕ) (state : State) (txns : List Txn)
     (reads : List ReadParts) (p q r : List ℕ)

@@ -16,11 +16,11 @@ lines_of (byte ∷ bytes) = if byte == 10 then [] ∷ lines_of bytes
     else onto_first byte (lines_of bytes)
 
 -- the bytes after so many lines
-unfoldable pub behind_lines : ℕ → List ℕ → List ℕ
-behind_lines zero bytes = bytes
-behind_lines (suc count) [] = []
-behind_lines (suc count) (byte ∷ bytes) = if byte == 10 then behind_lines count bytes
-    else behind_lines (suc count) bytes
+unfoldable pub after_lines : ℕ → List ℕ → List ℕ
+after_lines zero bytes = bytes
+after_lines (suc count) [] = []
+after_lines (suc count) (byte ∷ bytes) = if byte == 10 then after_lines count bytes
+    else after_lines (suc count) bytes
 
 -- ---- words
 
@@ -34,7 +34,7 @@ pub data LinePart : Type 0 where
   between : LinePart
   in_bare : List ℕ → LinePart
   in_quoted : List ℕ → LinePart
-  behind_quoted : LinePart
+  after_quoted : LinePart
 
 -- nothing or a blank comes
 abbrev pub is_word_end : List ℕ → Bool
@@ -62,10 +62,10 @@ words_at (in_bare come) (byte ∷ bytes) =
     else words_at (in_bare (come ++ byte ∷ [])) bytes)
 words_at (in_quoted come) [] = Err kinds.Quote
 words_at (in_quoted come) (byte ∷ bytes) =
-    if byte == 34 then with_word (quoted come) (words_at behind_quoted bytes)
+    if byte == 34 then with_word (quoted come) (words_at after_quoted bytes)
     else words_at (in_quoted (come ++ byte ∷ [])) bytes
-words_at behind_quoted [] = Ok []
-words_at behind_quoted (byte ∷ bytes) = if byte == 32 then words_at between bytes
+words_at after_quoted [] = Ok []
+words_at after_quoted (byte ∷ bytes) = if byte == 32 then words_at between bytes
     else Err kinds.Quote
 
 -- the words of a line, or the first of its tests that fails: each byte is allowed, each quote is in

@@ -10,7 +10,7 @@ use Rattle.c5_definitions.specs.WriteNumbers.{IsWrite, IsFirstWrite}
 pub record RowsAreNumbered (names : List RowName) : Type 0 where
   pub first : (w : ℕ) → IsWrite names w → IsFirstWrite names (row_of names w)
   pub not_above : (w : ℕ) → row_of names w ≤ w
-  pub named : (w : ℕ) → IsWrite names w → (name : RowName) × (name_at names w ≡ Some name)
+  pub has_name : (w : ℕ) → IsWrite names w → (name : RowName) × (name_at names w ≡ Some name)
   pub one_name : (v w : ℕ) → IsWrite names v → IsWrite names w → row_of names v ≡ row_of names w
       → name_at names v ≡ name_at names w
   pub one_row : (v w : ℕ) → IsWrite names v → IsWrite names w → name_at names v ≡ name_at names w

@@ -6,7 +6,7 @@ use Rattle.c5_definitions.specs.declared.script.ScriptFault.{ScriptFault}
 use Rattle.c5_definitions.specs.Steps.{◌>>=◌}
 use Rattle.c5_definitions.specs.ScriptParts.{ScriptParts}
 use Rattle.c5_definitions.specs.ScriptSoFar.{ScriptSoFar, script_start, is_closed, parts_of}
-use Rattle.c5_definitions.specs.Lines.{lines_of, behind_lines, words_of}
+use Rattle.c5_definitions.specs.Lines.{lines_of, after_lines, words_of}
 use Rattle.c5_definitions.specs.Statements.{after_line, FrontLine, goes_on, log_follows}
 use Rattle.c5_definitions.specs.Statements.{after_front_line}
 
@@ -53,4 +53,4 @@ front_from number s (line ∷ lines) = after_front_numbered number s line >>= λ
 -- the script that bytes begin with, and the bytes after the line that ends it, or their first fault
 unfoldable pub front_of : List ℕ → Result (ScriptParts × List ℕ) ScriptFault
 front_of bytes = front_from 1 script_start (lines_of bytes)
-    >>= λ front. Ok (front.0, behind_lines front.1 bytes)
+    >>= λ front. Ok (front.0, after_lines front.1 bytes)

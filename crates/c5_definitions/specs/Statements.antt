@@ -71,8 +71,8 @@ turns_line count words = if nat_lt max_turn_words (count + length words) then Er
     else turns_words words
 
 -- a line that is known once there is a table
-unfoldable pub standing_line : ScriptSoFar → List ℕ → List Word → Result ScriptSoFar ScriptKind
-standing_line s first words =
+unfoldable pub later_line : ScriptSoFar → List ℕ → List Word → Result ScriptSoFar ScriptKind
+later_line s first words =
     if bytes_eq first (codes "txn")
     then (txn_words words >>= λ block. Ok (record s { block = block }))
     else (if bytes_eq first (codes "read")
@@ -85,7 +85,7 @@ standing_line s first words =
 unfoldable pub outside_line : ScriptSoFar → List ℕ → List Word → Result ScriptSoFar ScriptKind
 outside_line s first words =
     if bytes_eq first (codes "table") && is_heading s then heading_line s words
-    else (if has_table s then standing_line s first words
+    else (if has_table s then later_line s first words
     else Err kinds.Word)
 
 -- ---- in a transaction

@@ -8,15 +8,15 @@ use Rattle.c5_definitions.specs.WriteNumbers.{place_below, owner_of}
 use Rattle.c5_definitions.specs.RowIndex.{bucket_count, fnv_1a, start_of, first_in_bucket}
 
 -- the row of table 0 with this key
-abbrev pub row_named : List ℕ → RowName
-row_named key = record { table = 0; key = key }
+abbrev pub row_with_key : List ℕ → RowName
+row_with_key key = record { table = 0; key = key }
 
 -- a transaction that deletes the rows of these keys
 abbrev pub deleting : ℕ → List (List ℕ) → Txn
 deleting stamp keys = record {
   script = 0;
   stamp = stamp;
-  writes = map (λ key. record { name = row_named key; change = Gone }) keys;
+  writes = map (λ key. record { name = row_with_key key; change = Gone }) keys;
 }
 
 -- three writes of one key, in three transactions
@@ -55,11 +55,11 @@ pub record AreNumbered : Type 0 where
 
 -- two rows whose paths begin at bucket 2 of 4: the second goes to bucket 3
 abbrev pub colliding : List RowName
-colliding = row_named (codes "a") ∷ row_named (codes "e") ∷ []
+colliding = row_with_key (codes "a") ∷ row_with_key (codes "e") ∷ []
 
 -- two rows whose paths begin at the last bucket: the second goes to the first bucket
 abbrev pub wrapping : List RowName
-wrapping = row_named (codes "b") ∷ row_named (codes "f") ∷ []
+wrapping = row_with_key (codes "b") ∷ row_with_key (codes "f") ∷ []
 
 -- the first two are test vectors that are published with FNV
 pub record AreIndexed : Type 0 where

@@ -1,10 +1,10 @@
 -- What statements, bodies, read blocks and serial runs do, worked out by hand.
-use Rattle.std.specs.Prelude.{◌≡◌, ◌-◌, ◌^◌, ℕ, ℤ, pos, negsuc, Bool, true, false, codes, List, []}
-use Rattle.std.specs.Prelude.{◌∷◌, Option, Some, None}
+use Rattle.std.specs.Prelude.{◌≡◌, ◌-◌, ◌^◌, ℕ, ℤ, pos, negsuc, true, false, codes, List, []}
+use Rattle.std.specs.Prelude.{◌∷◌}
 use Rattle.std.specs.FinMap.{empty, insert}
 use Rattle.std.specs.List.{AllByRecursion}
 use Rattle.c5_rows.specs.declared.cells.Cell.{Cell}
-use Rattle.c5_rows.specs.declared.cells.Cell.TheVariants.{Int, Txt}
+use Rattle.c5_rows.specs.declared.cells.Cell.TheVariants.{Int}
 use Rattle.c5_rows.specs.declared.writes.RowName.{RowName}
 use Rattle.c5_rows.specs.declared.writes.Change.TheVariants as changes
 use Rattle.c5_rows.specs.declared.writes.Write.{Write}
@@ -17,9 +17,8 @@ use Rattle.c5_definitions.specs.declared.script.Statement.{Statement}
 use Rattle.c5_definitions.specs.declared.script.Statement.TheVariants.{Put, Del, Need, Add, Copy}
 use Rattle.c5_definitions.specs.declared.script.ReadLine.TheVariants.{OneRow, SumOf}
 use Rattle.c5_definitions.specs.declared.script.Rel.TheVariants.{Lt, Le, Eq, Ge, Gt}
-use Rattle.c5_definitions.specs.ScriptParts.{ReadParts, ScriptParts}
+use Rattle.c5_definitions.specs.ScriptParts.{ReadParts}
 use Rattle.c5_definitions.specs.Eval.{Ending, eval}
-use Rattle.c5_definitions.specs.SerialRun.{serial_txns}
 
 -- a row of table 0
 abbrev pub at : List ℕ → RowName

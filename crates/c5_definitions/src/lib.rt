@@ -33,6 +33,7 @@ pub use scripts_worked::{
 };
 pub use turns_worked::worked_turns;
 pub use worked::{
-    worked_answer, worked_bodies, worked_limits, worked_line_faults, worked_log, worked_log_faults,
-    worked_rows, worked_serial_runs, worked_text_log, worked_text_rows,
+    worked_answer, worked_bodies, worked_form_faults, worked_limits, worked_line_faults,
+    worked_log, worked_log_faults, worked_rows, worked_serial_runs, worked_text_log,
+    worked_text_rows,
 };

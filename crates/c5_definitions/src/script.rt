@@ -37,7 +37,7 @@ pub enum Statement {
         rel: Rel,
         n: i64,
     },
-    /// Adds `n` to a cell. Declines the transaction where the row is absent or the sum isn't an
+    /// Adds `n` to a cell. Declines the transaction if the row is absent or the sum isn't an
     /// i64.
     Add {
         name: RowName,

@@ -38,7 +38,7 @@ pub fn worked_scripts()
     ensures forms { script_of forms_text ≡ Ok forms_parts }
 {}
 
-/// The first faults of bytes that are no scripts.
+/// The first faults of bytes that aren't scripts.
 pub fn worked_script_faults()
     ensures number { script_of bad_number_text ≡ Err (record { line = 3; kind = kinds.Number }) }
     ensures wrong_type { script_of bad_type_text

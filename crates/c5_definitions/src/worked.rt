@@ -20,7 +20,10 @@ ghost use Rattle.c5_definitions.specs.WorkedRuns.{run_bodies, run_in_order, run_
 ghost use Rattle.c5_definitions.specs.WorkedRuns.{read_block, read_answer, counted_bodies};
 ghost use Rattle.c5_definitions.specs.WorkedScriptFaults.{HaveScriptFaults, line_faults};
 ghost use Rattle.c5_definitions.specs.WorkedScriptFaults.{count_faults, word_faults};
-ghost use Rattle.c5_definitions.specs.WorkedScriptFaults.{limit_faults};
+ghost use Rattle.c5_definitions.specs.WorkedScriptFaults.{unknown_faults};
+ghost use Rattle.c5_definitions.specs.WorkedScriptFaults.{form_faults, name_faults};
+ghost use Rattle.c5_definitions.specs.WorkedScriptFaults.{later_word_faults, limit_faults};
+ghost use Rattle.c5_definitions.specs.WorkedScriptFaults.{HaveTurnFaults, turn_faults};
 ghost use Rattle.c5_rows.specs.Sizes.{max_transactions, max_writes, max_rows};
 
 use crate::limits::Excess;
@@ -61,6 +64,15 @@ pub fn worked_line_faults()
     ensures counts { HaveScriptFaults count_faults }
     ensures words { HaveScriptFaults word_faults }
     ensures limits { HaveScriptFaults limit_faults }
+    ensures turns { HaveTurnFaults turn_faults }
+{}
+
+/// The same in each form of line.
+pub fn worked_form_faults()
+    ensures places { HaveScriptFaults unknown_faults }
+    ensures counts { HaveScriptFaults form_faults }
+    ensures names { HaveScriptFaults name_faults }
+    ensures words { HaveScriptFaults later_word_faults }
 {}
 
 /// How bodies of one statement end: each form, and each relation.

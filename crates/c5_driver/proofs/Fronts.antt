@@ -3,7 +3,7 @@ use Rattle.std.proofs.Common.{◌≡◌, ◌≤◌, ◌-◌, ◌==◌, ℕ, zero
 use Rattle.std.proofs.Common.{length, drop, Result, Ok, Err, ap, refl, subst, arith, ◌∙◌}
 use Rattle.std.specs.Prelude.{if◌then◌else◌}
 use Rattle.c5_definitions.specs.Steps.{◌>>=◌}
-use Rattle.c5_definitions.specs.Lines.{behind_lines, lines_of}
+use Rattle.c5_definitions.specs.Lines.{after_lines, lines_of}
 use Rattle.c5_definitions.specs.ScriptParts.{ScriptParts}
 use Rattle.c5_definitions.specs.ScriptSoFar.{script_start}
 use Rattle.c5_definitions.specs.Script.{front_from, front_of}
@@ -35,13 +35,13 @@ either-end : (b : Bool) (byte : ℕ) (bytes x y : List ℕ) → IsEnd bytes x �
 either-end true byte bytes x y h k = one-before byte bytes x h
 either-end false byte bytes x y h k = one-before byte bytes y k
 
-behind-end : (n : ℕ) (bytes : List ℕ) → IsEnd bytes (behind_lines n bytes)
-unfolding behind_lines
-behind-end zero bytes = none-before bytes
-behind-end (suc n) [] = none-before []
-behind-end (suc n) (byte ∷ bytes) =
-    either-end (byte == 10) byte bytes (behind_lines n bytes) (behind_lines (suc n) bytes)
-    (behind-end n bytes) (behind-end (suc n) bytes)
+after-end : (n : ℕ) (bytes : List ℕ) → IsEnd bytes (after_lines n bytes)
+unfolding after_lines
+after-end zero bytes = none-before bytes
+after-end (suc n) [] = none-before []
+after-end (suc n) (byte ∷ bytes) =
+    either-end (byte == 10) byte bytes (after_lines n bytes) (after_lines (suc n) bytes)
+    (after-end n bytes) (after-end (suc n) bytes)
 
 -- what follows the script that was read, or else the bytes
 abbrev rest_of : List ℕ → Result (ScriptParts × List ℕ) ScriptFault → List ℕ
@@ -49,8 +49,8 @@ rest_of bytes (Ok front) = front.1
 rest_of bytes (Err fault) = bytes
 
 rest-end : (bytes : List ℕ) (read : Result (ScriptParts × ℕ) ScriptFault)
-    → IsEnd bytes (rest_of bytes (read >>= λ front. Ok (front.0, behind_lines front.1 bytes)))
-rest-end bytes (Ok front) = behind-end front.1 bytes
+    → IsEnd bytes (rest_of bytes (read >>= λ front. Ok (front.0, after_lines front.1 bytes)))
+rest-end bytes (Ok front) = after-end front.1 bytes
 rest-end bytes (Err fault) = none-before bytes
 
 pub front-end : (bytes rest : List ℕ) (script : ScriptParts) → front_of bytes ≡ Ok (script, rest)

@@ -10,7 +10,7 @@ use Rattle.c5_definitions.specs.Words.{Word, bare, quoted}
 use Rattle.c5_definitions.specs.ScriptParts.{ScriptParts}
 use Rattle.c5_definitions.specs.ScriptSoFar.{ScriptSoFar, script_start, is_outside, has_table}
 use Rattle.c5_definitions.specs.ScriptSoFar.{is_closed, parts_of}
-use Rattle.c5_definitions.specs.Lines.{lines_of, behind_lines, words_of}
+use Rattle.c5_definitions.specs.Lines.{lines_of, after_lines, words_of}
 use Rattle.c5_definitions.specs.Statements.{FrontLine, goes_on, log_follows, is_log_line, log_line}
 use Rattle.c5_definitions.specs.Statements.{after_line, after_front_line}
 use Rattle.c5_definitions.specs.Script.{on_line, after_front_numbered, front_from, front_of}
@@ -21,26 +21,26 @@ use Rattle.c5_script.specs.Parsing.{ParseFails}
 -- ---- the bytes behind lines
 
 behind-one_more : (count : ℕ) (bytes : List ℕ)
-    → behind_lines 1 (behind_lines count bytes) ≡ behind_lines (suc count) bytes
-unfolding behind_lines
+    → after_lines 1 (after_lines count bytes) ≡ after_lines (suc count) bytes
+unfolding after_lines
 behind-one_more zero bytes = refl
 behind-one_more (suc count) [] = refl
 behind-one_more (suc count) (byte ∷ bytes) =
     elim (eqb byte 10) as
-    (λ v. behind_lines 1 (if v then behind_lines count bytes
-    else behind_lines (suc count) bytes)
-    ≡ (if v then behind_lines (suc count) bytes else behind_lines (suc (suc count)) bytes)) [
+    (λ v. after_lines 1 (if v then after_lines count bytes
+    else after_lines (suc count) bytes)
+    ≡ (if v then after_lines (suc count) bytes else after_lines (suc (suc count)) bytes)) [
       | true ↦ behind-one_more count bytes
       | false ↦ behind-one_more (suc count) bytes
     ]
 
 pub behind-next : (number : ℕ) (bytes rest behind : List ℕ) → 1 ≤ number
-    → behind_lines (number - 1) bytes ≡ rest → behind_lines 1 rest ≡ behind
-    → behind_lines number bytes ≡ behind
+    → after_lines (number - 1) bytes ≡ rest → after_lines 1 rest ≡ behind
+    → after_lines number bytes ≡ behind
 behind-next number bytes rest behind some before next =
     let more : suc (number - 1) ≡ number = omega arith in
-    ap (λ (n : ℕ). behind_lines n bytes) (sym more) ∙ sym (behind-one_more (number - 1) bytes) ∙ ap
-    (behind_lines 1) before ∙ next
+    ap (λ (n : ℕ). after_lines n bytes) (sym more) ∙ sym (behind-one_more (number - 1) bytes) ∙ ap
+    (after_lines 1) before ∙ next
 
 -- ---- lines
 
@@ -70,7 +70,7 @@ pub front-fails : (number : ℕ) (s : ScriptSoFar) (line : List ℕ) (lines : Li
     → ParseFails fault (after_front_numbered number s line) → ParseFails fault (front_of bytes)
 unfolding front_of
 front-fails number s line lines bytes (faults.Bad fault) whole e =
-    ap (λ r. r >>= λ front. Ok (front.0, behind_lines front.1 bytes))
+    ap (λ r. r >>= λ front. Ok (front.0, after_lines front.1 bytes))
     (whole ∙ front-line number s line lines (Err fault) e)
 front-fails number s line lines bytes faults.NoMemory whole e = tt
 
@@ -79,16 +79,16 @@ pub front-unclosed : (number : ℕ) (s : ScriptSoFar) (bytes : List ℕ)
     → front_of bytes ≡ Err (record { line = number; kind = kinds.Unclosed })
 unfolding front_of front_from lines_of
 front-unclosed number s bytes whole =
-    ap (λ r. r >>= λ front. Ok (front.0, behind_lines front.1 bytes)) whole
+    ap (λ r. r >>= λ front. Ok (front.0, after_lines front.1 bytes)) whole
 
 pub front-ends : (number : ℕ) (s : ScriptSoFar) (line : List ℕ) (lines : List (List ℕ))
     (bytes behind : List ℕ)
     → front_from 1 script_start (lines_of bytes) ≡ front_from number s (line ∷ lines)
-    → after_front_numbered number s line ≡ Ok log_follows → behind_lines number bytes ≡ behind
+    → after_front_numbered number s line ≡ Ok log_follows → after_lines number bytes ≡ behind
     → front_of bytes ≡ Ok (parts_of s, behind)
 unfolding front_of front-step
 front-ends number s line lines bytes behind whole e rest =
-    ap (λ r. r >>= λ front. Ok (front.0, behind_lines front.1 bytes))
+    ap (λ r. r >>= λ front. Ok (front.0, after_lines front.1 bytes))
     (whole ∙ front-line number s line lines (Ok log_follows) e)
     ∙ ap (λ (rest : List ℕ). Ok (parts_of s, rest)) rest
 

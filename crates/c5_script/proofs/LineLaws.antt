@@ -5,7 +5,7 @@ use Rattle.std.specs.List.{position, position_or_len}
 use Rattle.std.proofs.lemmas.Grind.{common_steps}
 use Rattle.std.proofs.lemmas.List.Sums.{position_or_len_is}
 use Rattle.memchr.specs.Find.{IsFirstByte, is_byte}
-use Rattle.c5_definitions.specs.Lines.{lines_of, behind_lines}
+use Rattle.c5_definitions.specs.Lines.{lines_of, after_lines}
 
 abbrev pub is_end : ℕ → Bool
 is_end byte = eqb byte 10
@@ -19,8 +19,8 @@ lines-before_end [] h = absurd (omega arith)
 lines-before_end (byte ∷ bytes) h = grind (arith, common_steps, lines-before_end bytes)
 
 behind-end : (bytes : List ℕ) → position_or_len is_end bytes < length bytes
-    → behind_lines 1 bytes ≡ drop (position_or_len is_end bytes + 1) bytes
-unfolding behind_lines
+    → after_lines 1 bytes ≡ drop (position_or_len is_end bytes + 1) bytes
+unfolding after_lines
 behind-end [] h = absurd (omega arith)
 behind-end (byte ∷ bytes) h = grind (arith, common_steps, behind-end bytes)
 
@@ -33,12 +33,12 @@ lines-without_end byte [] h = grind (arith, common_steps)
 lines-without_end byte (next ∷ bytes) h = grind (arith, common_steps, lines-without_end next bytes)
 
 behind-no_end : (bytes : List ℕ) → length bytes ≤ position_or_len is_end bytes
-    → behind_lines 1 bytes ≡ []
-unfolding behind_lines
+    → after_lines 1 bytes ≡ []
+unfolding after_lines
 behind-no_end [] h = refl
 behind-no_end (byte ∷ bytes) h = grind (arith, common_steps, behind-no_end bytes)
 
--- ---- the first place where a line end stands is the one that a search for it gives
+-- ---- the first line end is at the place that a search for it gives
 
 not_true : (b : Bool) → ¬ (b ≡ true) → b ≡ false
 not_true true never = absurd (never refl)
@@ -65,7 +65,7 @@ pub lines-Some : (bytes : List ℕ) (end : ℕ) → Some end ≡ position is_end
 lines-Some bytes end found = grind (arith, common_steps, lines-before_end bytes)
 
 pub behind-Some : (bytes : List ℕ) (end : ℕ) → Some end ≡ position is_end bytes
-    → behind_lines 1 bytes ≡ drop (end + 1) bytes
+    → after_lines 1 bytes ≡ drop (end + 1) bytes
 behind-Some bytes end found = grind (arith, common_steps, behind-end bytes)
 
 pub lines-None : (bytes : List ℕ) → 1 ≤ length bytes → None ≡ position is_end bytes
@@ -74,5 +74,5 @@ unfolding lines_of
 lines-None [] some found = absurd (omega arith)
 lines-None (byte ∷ bytes) some found = grind (arith, common_steps, lines-without_end byte bytes)
 
-pub behind-None : (bytes : List ℕ) → None ≡ position is_end bytes → behind_lines 1 bytes ≡ []
+pub behind-None : (bytes : List ℕ) → None ≡ position is_end bytes → after_lines 1 bytes ≡ []
 behind-None bytes found = grind (arith, common_steps, behind-no_end bytes)

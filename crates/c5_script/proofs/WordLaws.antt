@@ -11,7 +11,7 @@ use Rattle.std.proofs.lemmas.List.Quantifiers.{position-Some}
 use Rattle.c5_definitions.specs.declared.script.ScriptKind.{ScriptKind}
 use Rattle.c5_definitions.specs.declared.script.ScriptKind.TheVariants as kinds
 use Rattle.c5_definitions.specs.Words.{Word, bare, quoted}
-use Rattle.c5_definitions.specs.Lines.{is_word_end, between, in_bare, in_quoted, behind_quoted}
+use Rattle.c5_definitions.specs.Lines.{is_word_end, between, in_bare, in_quoted, after_quoted}
 use Rattle.c5_definitions.specs.Lines.{with_word, words_at, words_of, is_line_byte}
 use Rattle.c5_script.specs.Reading.{with_words}
 
@@ -144,7 +144,7 @@ text-run (suc n) come (byte ∷ bytes) h =
 
 text-closes : (come : List ℕ) (byte : ℕ) (bytes : List ℕ) → is_quote byte ≡ true
     → words_at (in_quoted come) (byte ∷ bytes)
-    ≡ with_word (quoted come) (words_at behind_quoted bytes)
+    ≡ with_word (quoted come) (words_at after_quoted bytes)
 unfolding words_at
 text-closes come byte bytes h = grind (arith, common_steps)
 
@@ -154,7 +154,7 @@ text-open come = refl
 
 pub text-Some : (bytes : List ℕ) (end : ℕ) → Some end ≡ position is_quote bytes
     → words_at (in_quoted []) bytes
-    ≡ with_word (quoted (take end bytes)) (words_at behind_quoted (drop (end + 1) bytes))
+    ≡ with_word (quoted (take end bytes)) (words_at after_quoted (drop (end + 1) bytes))
 text-Some bytes end found =
     let at = position-Some is_quote bytes end 0 (sym found) in
     let up_to = pos-Some is_quote bytes end found in
@@ -168,13 +168,13 @@ text-None bytes found = text-run (length bytes) [] bytes (pos-None is_quote byte
 
 -- behind a text the next word may begin, or nothing
 pub behind_text : (bytes : List ℕ) → is_word_end bytes ≡ true
-    → words_at behind_quoted bytes ≡ words_at between bytes
+    → words_at after_quoted bytes ≡ words_at between bytes
 unfolding words_at
 behind_text [] h = refl
 behind_text (byte ∷ bytes) h = grind (arith, common_steps)
 
 pub behind_text_no : (bytes : List ℕ) → is_word_end bytes ≡ false
-    → words_at behind_quoted bytes ≡ Err kinds.Quote
+    → words_at after_quoted bytes ≡ Err kinds.Quote
 unfolding words_at
 behind_text_no [] h = absurd cc
 behind_text_no (byte ∷ bytes) h = grind (arith, common_steps)

@@ -9,7 +9,7 @@ ghost use Rattle.c5_definitions.specs.ScriptSoFar.{in_txn, in_read, is_heading};
 ghost use Rattle.c5_definitions.specs.Places.{turn_in, each_in};
 ghost use Rattle.c5_definitions.specs.Statements.{new_table, table_words, table_line, heading_line};
 ghost use Rattle.c5_definitions.specs.Statements.{outside_line, txn_words, read_words, read_line};
-ghost use Rattle.c5_definitions.specs.Statements.{turns_words, turns_line, standing_line};
+ghost use Rattle.c5_definitions.specs.Statements.{turns_words, turns_line, later_line};
 ghost use Rattle.c5_script.specs.Partial.{script_so_far, with_turns, BlockFits};
 ghost use Rattle.c5_script.specs.Taking.{StepsTo};
 ghost use Rattle.c5_definitions.specs.Steps.{Gives};
@@ -154,7 +154,7 @@ fn statements_before(script: &Script) -> usize
 }
 
 /// Takes a line outside blocks, once there is a table.
-#[tactic(auto, unfolding(c5_definitions::specs::Statements::standing_line))]
+#[tactic(auto, unfolding(c5_definitions::specs::Statements::later_line))]
 pub(crate) fn add_standing(
     alloc: Global,
     script: &mut Script,
@@ -164,7 +164,7 @@ pub(crate) fn add_standing(
 ) -> Result<(), LineError>
     requires { block.old ≡ OpenBlock.Outside }
     ensures step { StepsTo (λ _. script_so_far (Some script.new) block.new) result
-        (standing_line (script_so_far (Some script.old) block.old) first.now
+        (later_line (script_so_far (Some script.old) block.old) first.now
         (held_words words.now)) }
     ensures fits { BlockFits (Some script.new) block.new }
 {

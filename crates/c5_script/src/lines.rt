@@ -1,7 +1,7 @@
 //! The lines of a script.
 
 ghost use Rattle.std.specs.Prelude.{◌≡◌, ◌<◌, ◌==◌, ◌∷◌, ◌≤◌, length, position};
-ghost use Rattle.c5_definitions.specs.Lines.{lines_of, behind_lines};
+ghost use Rattle.c5_definitions.specs.Lines.{lines_of, after_lines};
 
 use memchr::memchr;
 
@@ -15,7 +15,7 @@ fn line_end(bytes: &[u8]) -> Option<usize>
 pub(crate) fn first_line(bytes: &[u8]) -> (&[u8], &[u8])
     requires { 1 ≤ length bytes.now }
     ensures lines { lines_of bytes.now ≡ result.0.now ∷ lines_of result.1.now }
-    ensures behind { behind_lines 1 bytes.now ≡ result.1.now }
+    ensures behind { after_lines 1 bytes.now ≡ result.1.now }
     ensures shorter { length result.1.now < length bytes.now }
 {
     match line_end(bytes) {

@@ -11,7 +11,7 @@ use Rattle.c5_definitions.proofs.NumberTexts.{number-cut, word_end-ends}
 use Rattle.c5_text.specs.Readers.{IsAfter, IsHead}
 use Rattle.c5_text.specs.declared.replies.ReplyHead.{ReplyHead}
 use Rattle.c5_text.specs.Reading.{bytes_before, rest_after_byte}
-use Rattle.c5_text.proofs.Laws.{cut-front, rest_after_byte-sound, rest_after_byte-again}
+use Rattle.c5_text.proofs.Laws.{cut-prefix, rest_after_byte-sound, rest_after_byte-again}
 use Rattle.c5_text.proofs.Laws.{digits-other}
 
 -- ---- after a space
@@ -36,12 +36,12 @@ pub number-found : (bytes rest digits after : List ℕ) (count n : ℕ)
     → Some rest ≡ rest_after_byte 32 bytes → count ≡ bytes_before 32 rest → digits ≡ take count rest
     → after ≡ drop count rest → digits ≡ decimal n
     → IsTrue (is_word_end after) × (bytes ≡ number_text n ++ after)
-number-found bytes rest digits after count n space counted front back is =
+number-found bytes rest digits after count n space counted prefix back is =
     let cut : after ≡ drop (bytes_before 32 rest) rest =
     back ∙ ap (λ (k : ℕ). drop k rest) counted in
     let whole : rest ≡ decimal n ++ after =
     sym (take-append-drop count rest) ∙ ap (λ (t : List ℕ). t ++ drop count rest)
-    (sym front ∙ is) ∙ ap (λ (t : List ℕ). decimal n ++ t) (sym back) in (
+    (sym prefix ∙ is) ∙ ap (λ (t : List ℕ). decimal n ++ t) (sym back) in (
       rw cut (drop-ends rest),
       rest_after_byte-sound 32 bytes rest (sym space) ∙ ap (λ (t : List ℕ). 32 ∷ t) whole,
     )
@@ -51,13 +51,13 @@ pub number-digits : (bytes rest digits : List ℕ) (count n : ℕ) (after : List
     → Some rest ≡ rest_after_byte 32 bytes → count ≡ bytes_before 32 rest → digits ≡ take count rest
     → n < 2 ^ 32 → IsTrue (is_word_end after)
     → bytes ≡ number_text n ++ after → digits ≡ decimal n
-number-digits bytes rest digits count n after space counted front lt ends is =
+number-digits bytes rest digits count n after space counted prefix lt ends is =
     let same : rest ≡ decimal n ++ after =
     (let e = space ∙ ap (rest_after_byte 32) is ∙ rest_after_byte-again 32
     (decimal n ++ after) in cc) in
     let free = digits-other (decimal n) (decimal_is_IsNumeral n (omega (arith, lt))).0.1 in
-    let cut = cut-front 32 (decimal n) after free (word_end-before after ends) in
-    front ∙ ap (λ (k : ℕ). take k rest) counted ∙ ap
+    let cut = cut-prefix 32 (decimal n) after free (word_end-before after ends) in
+    prefix ∙ ap (λ (k : ℕ). take k rest) counted ∙ ap
     (λ (t : List ℕ). take (bytes_before 32 t) t) same ∙ cut
 
 pub no-space : (bytes : List ℕ) (n : ℕ) (after : List ℕ) → None ≡ rest_after_byte 32 bytes
@@ -91,26 +91,26 @@ pub head-parts : (session place lag : ℕ) → head_line session place lag
 head-parts session place lag = regroup (codes "read") (number_text session) (codes " place")
     (number_text place) (codes " lag") (number_text lag)
 
-pub session-cut : (line behind : List ℕ) (session : ℕ) (head : ReplyHead)
-    → IsAfter (codes "read") line session behind → IsHead line head → (session ≡ head.session)
-    × (behind ≡ after_session head.place head.lag)
-session-cut line behind session head found is =
-    label-cut (codes "read") line session head.session behind
+pub session-cut : (line after : List ℕ) (session : ℕ) (head : ReplyHead)
+    → IsAfter (codes "read") line session after → IsHead line head → (session ≡ head.session)
+    × (after ≡ after_session head.place head.lag)
+session-cut line after session head found is =
+    label-cut (codes "read") line session head.session after
     (after_session head.place head.lag) found.small is.small_session found.ends refl
     found.spelled (is.spelled ∙ head-parts head.session head.place head.lag)
 
-pub place-cut : (line behind last : List ℕ) (session place : ℕ) (head : ReplyHead)
-    → IsAfter (codes "read") line session behind → IsAfter (codes " place") behind place last
+pub place-cut : (line after last : List ℕ) (session place : ℕ) (head : ReplyHead)
+    → IsAfter (codes "read") line session after → IsAfter (codes " place") after place last
     → IsHead line head → (place ≡ head.place) × (last ≡ after_place head.lag)
-place-cut line behind last session place head found next is =
-    label-cut (codes " place") behind place head.place last
+place-cut line after last session place head found next is =
+    label-cut (codes " place") after place head.place last
     (after_place head.lag) next.small is.small_place next.ends refl next.spelled
-    (session-cut line behind session head found is).1
+    (session-cut line after session head found is).1
 
-pub lag-cut : (line behind last end : List ℕ) (session place lag : ℕ) (head : ReplyHead)
-    → IsAfter (codes "read") line session behind → IsAfter (codes " place") behind place last
+pub lag-cut : (line after last end : List ℕ) (session place lag : ℕ) (head : ReplyHead)
+    → IsAfter (codes "read") line session after → IsAfter (codes " place") after place last
     → IsAfter (codes " lag") last lag end → IsHead line head → (lag ≡ head.lag) × (end ≡ [])
-lag-cut line behind last end session place lag head found next third is =
+lag-cut line after last end session place lag head found next third is =
     label-cut
     (codes " lag") last lag head.lag end [] third.small is.small_lag third.ends refl
-    third.spelled (place-cut line behind last session place head found next is).1
+    third.spelled (place-cut line after last session place head found next is).1

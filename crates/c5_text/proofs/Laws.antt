@@ -44,35 +44,36 @@ not_is : (b : Bool) → not b ≡ true → b ≡ false
 not_is true e = absurd cc
 not_is false e = refl
 
-bytes_before-append : (stop : ℕ) (front rest : List ℕ) → list_all (other stop) front ≡ true
-    → bytes_before stop rest ≡ 0 → bytes_before stop (front ++ rest) ≡ length front
+bytes_before-append : (stop : ℕ) (prefix rest : List ℕ) → list_all (other stop) prefix ≡ true
+    → bytes_before stop rest ≡ 0 → bytes_before stop (prefix ++ rest) ≡ length prefix
 unfolding bytes_before
 bytes_before-append stop [] rest free starts = starts
-bytes_before-append stop (byte ∷ front) rest free starts =
-    let parts = both (other stop byte) (list_all (other stop) front) free in
+bytes_before-append stop (byte ∷ prefix) rest free starts =
+    let parts = both (other stop byte) (list_all (other stop) prefix) free in
     let here : eqb byte stop ≡ false = not_is (eqb byte stop) parts.0 in
-    let more = bytes_before-append stop front rest parts.1 starts in
+    let more = bytes_before-append stop prefix rest parts.1 starts in
     rw (here, more) refl
 
-take-front : (front rest : List ℕ) → take (length front) (front ++ rest) ≡ front
-take-front [] rest = refl
-take-front (byte ∷ front) rest = ap (λ (t : List ℕ). byte ∷ t) (take-front front rest)
+take-prefix : (prefix rest : List ℕ) → take (length prefix) (prefix ++ rest) ≡ prefix
+take-prefix [] rest = refl
+take-prefix (byte ∷ prefix) rest = ap (λ (t : List ℕ). byte ∷ t) (take-prefix prefix rest)
 
-drop-front : (front rest : List ℕ) → drop (length front) (front ++ rest) ≡ rest
-drop-front [] rest = refl
-drop-front (byte ∷ front) rest = drop-front front rest
+drop-prefix : (prefix rest : List ℕ) → drop (length prefix) (prefix ++ rest) ≡ rest
+drop-prefix [] rest = refl
+drop-prefix (byte ∷ prefix) rest = drop-prefix prefix rest
 
-pub cut-front : (stop : ℕ) (front rest : List ℕ) → list_all (other stop) front ≡ true
-    → bytes_before stop rest ≡ 0 → take (bytes_before stop (front ++ rest)) (front ++ rest) ≡ front
-cut-front stop front rest free starts =
-    ap (λ (n : ℕ). take n (front ++ rest))
-    (bytes_before-append stop front rest free starts) ∙ take-front front rest
+pub cut-prefix : (stop : ℕ) (prefix rest : List ℕ) → list_all (other stop) prefix ≡ true
+    → bytes_before stop rest ≡ 0
+    → take (bytes_before stop (prefix ++ rest)) (prefix ++ rest) ≡ prefix
+cut-prefix stop prefix rest free starts =
+    ap (λ (n : ℕ). take n (prefix ++ rest))
+    (bytes_before-append stop prefix rest free starts) ∙ take-prefix prefix rest
 
-pub cut-rest : (stop : ℕ) (front rest : List ℕ) → list_all (other stop) front ≡ true
-    → bytes_before stop rest ≡ 0 → drop (bytes_before stop (front ++ rest)) (front ++ rest) ≡ rest
-cut-rest stop front rest free starts =
-    ap (λ (n : ℕ). drop n (front ++ rest))
-    (bytes_before-append stop front rest free starts) ∙ drop-front front rest
+pub cut-rest : (stop : ℕ) (prefix rest : List ℕ) → list_all (other stop) prefix ≡ true
+    → bytes_before stop rest ≡ 0 → drop (bytes_before stop (prefix ++ rest)) (prefix ++ rest) ≡ rest
+cut-rest stop prefix rest free starts =
+    ap (λ (n : ℕ). drop n (prefix ++ rest))
+    (bytes_before-append stop prefix rest free starts) ∙ drop-prefix prefix rest
 
 bytes_before-here : (stop : ℕ) (rest : List ℕ) → bytes_before stop (stop ∷ rest) ≡ 0
 unfolding bytes_before
@@ -197,14 +198,14 @@ text-sound quoted x e =
       type = refl;
     })
 
--- the cell behind its blank
-pub record IsCellBehind (column : CellType) (bytes : List ℕ) (x : Cell × List ℕ) : Type 0 where
+-- the cell after its blank
+pub record IsCellAfterBlank (column : CellType) (bytes : List ℕ) (x : Cell × List ℕ) : Type 0 where
   pub parts : bytes ≡ 32 ∷ cell_text x.0 ++ x.1
   pub lawful : IsLawfulCell x.0
   pub type : type_of x.0 ≡ column
 
 with_blank : (column : CellType) (bytes rest : List ℕ) (x : Cell × List ℕ)
-    → rest_after_byte 32 bytes ≡ Some rest → IsCell column rest x → IsCellBehind column bytes x
+    → rest_after_byte 32 bytes ≡ Some rest → IsCell column rest x → IsCellAfterBlank column bytes x
 with_blank column bytes rest x e cell =
     record {
       parts = rest_after_byte-sound 32 bytes rest e ∙ ap (λ (t : List ℕ). 32 ∷ t) cell.parts;
@@ -213,7 +214,7 @@ with_blank column bytes rest x e cell =
     }
 
 cell-sound : (column : CellType) (bytes : List ℕ) (x : Cell × List ℕ)
-    → printed_cell_at column bytes ≡ Some x → IsCellBehind column bytes x
+    → printed_cell_at column bytes ≡ Some x → IsCellAfterBlank column bytes x
 unfolding printed_cell_at
 cell-sound types.Int bytes x e = let a = bind_some (rest_after_byte 32 bytes) printed_int_at x e in
     with_blank types.Int bytes a.0 x a.1 (int-sound a.0 x a.2)
@@ -226,9 +227,9 @@ int-again : (n : ℤ) (rest : List ℕ) → FitsSigned w64 n → bytes_before 32
 unfolding printed_int_at
 int-again n rest fits starts =
     let free = number-other n fits in
-    let front = cut-front 32 (signed_decimal n) rest free starts in
+    let prefix = cut-prefix 32 (signed_decimal n) rest free starts in
     let back = cut-rest 32 (signed_decimal n) rest free starts in
-    rw (front, back, int_of-again n fits) refl
+    rw (prefix, back, int_of-again n fits) refl
 
 text-again : (text rest : List ℕ) → IsText text
     → printed_text_at (34 ∷ text ++ 34 ∷ rest) ≡ Some (Txt text, rest)
@@ -236,11 +237,11 @@ unfolding printed_text_at
 text-again text rest is =
     let free = all-other is_text_byte (other 34) text_byte-other text is.each in
     let starts = bytes_before-here 34 rest in
-    let front = cut-front 34 text (34 ∷ rest) free starts in
+    let prefix = cut-prefix 34 text (34 ∷ rest) free starts in
     let back = cut-rest 34 text (34 ∷ rest) free starts in
     rw (
       rest_after_byte-again 34 (text ++ 34 ∷ rest),
-      front,
+      prefix,
       checked-again 0 32 is_text_byte text is,
       back,
       rest_after_byte-again 34 rest,
@@ -328,16 +329,16 @@ row-again columns row lawful fits = rw (sym fits, cells-again row lawful) refl
 
 -- ---- tables
 
-abbrev Named : ℕ → ℕ → List ℕ → List TableDef → Type 0
-Named n k name tables = (n ≤ k)
+abbrev HasNumber : ℕ → ℕ → List ℕ → List TableDef → Type 0
+HasNumber n k name tables = (n ≤ k)
     × ((table : TableDef) → slice_get tables (k - n) ≡ Some table → table.name ≡ name)
 
-named-step : (n k : ℕ) (name : List ℕ) (first : TableDef) (tables : List TableDef)
-    → (table_number_from (n + 1) name tables ≡ Some k → Named (n + 1) k name tables)
+number-step : (n k : ℕ) (name : List ℕ) (first : TableDef) (tables : List TableDef)
+    → (table_number_from (n + 1) name tables ≡ Some k → HasNumber (n + 1) k name tables)
     → (b : Bool) → bytes_eq first.name name ≡ b
     → cond b (Some n) (table_number_from (n + 1) name tables) ≡ Some k
-    → Named n k name (first ∷ tables)
-named-step n k name first tables later true same e =
+    → HasNumber n k name (first ∷ tables)
+number-step n k name first tables later true same e =
     let here : n ≡ k = some_is n k e in
     let none : k - n ≡ 0 = omega arith in (
       omega arith,
@@ -346,7 +347,7 @@ named-step n k name first tables later true same e =
           some_is first table (ap (slice_get (first ∷ tables)) (sym none) ∙ at) in
           ap (λ (t : TableDef). t.name) (sym this) ∙ (bytes_eq-Decides first.name name).0 same,
     )
-named-step n k name first tables later false other e =
+number-step n k name first tables later false other e =
     let more = later e in
     let le = more.0 in
     let less : k - n ≡ suc (k - (n + 1)) = omega arith in (
@@ -355,10 +356,10 @@ named-step n k name first tables later false other e =
     )
 
 table-sound : (n k : ℕ) (name : List ℕ) (tables : List TableDef)
-    → table_number_from n name tables ≡ Some k → Named n k name tables
+    → table_number_from n name tables ≡ Some k → HasNumber n k name tables
 table-sound n k name [] e = absurd cc
 table-sound n k name (first ∷ tables) e =
-    named-step n k name first tables (table-sound (n + 1) k name tables)
+    number-step n k name first tables (table-sound (n + 1) k name tables)
     (bytes_eq first.name name) refl e
 
 again-step : (n k : ℕ) (table first : TableDef) (tables : List TableDef)
@@ -389,9 +390,9 @@ table-again n (suc k) table (first ∷ tables) names at =
     again-step n k table first tables names.0 (λ m. table-again m k table tables names.1 at)
     (bytes_eq first.name table.name) refl
 
-table_number-named : (k : ℕ) (name : List ℕ) (table : TableDef) (tables : List TableDef)
+table_number-name : (k : ℕ) (name : List ℕ) (table : TableDef) (tables : List TableDef)
     → table_number name tables ≡ Some k → slice_get tables k ≡ Some table → table.name ≡ name
-table_number-named k name table tables e at =
+table_number-name k name table tables e at =
     let same : k - 0 ≡ k = omega arith in
     (table-sound 0 k name tables e).1 table (ap (slice_get tables) same ∙ at)
 
@@ -446,15 +447,15 @@ line-sound tables line entry e =
     in
     let row = g.0 in
     let made : RowEntry = record { name = record { table = number; key = key }; row = row } in
-    let named : table.name ≡ take n line =
-    table_number-named number (take n line) table tables a.1 b.1 in
+    let name_is : table.name ≡ take n line =
+    table_number-name number (take n line) table tables a.1 b.1 in
     let checked = checked-sound 1 32 is_key_byte (take m bytes) key f.1 in
     let cells = row-sound table.columns (drop m bytes) row g.1 in
     let tail : bytes ≡ key ++ cells_text row =
     sym (take-append-drop m bytes) ∙ ap (λ (t : List ℕ). t ++ drop m bytes) (sym checked.0) ∙ ap
     (λ (t : List ℕ). key ++ t) cells.0 in
     let name : table_name_text (slice_get tables number) ≡ take n line =
-    ap table_name_text b.1 ∙ named in
+    ap table_name_text b.1 ∙ name_is in
     let text : line ≡ line_text tables made =
     sym (take-append-drop n line)
     ∙ ap (λ (t : List ℕ). t ++ rest) (sym name)
@@ -483,28 +484,28 @@ line-again tables entry schema names is =
     let row = entry.row in
     let t = match-of (slice_get tables number) (λ table. map type_of row ≡ table.columns) is.fits in
     let table = t.0 in
-    let named = names number table t.1 in
+    let allowed = names number table t.1 in
     let tail = key ++ cells_text row in
-    let free = all-other is_name_byte (other 32) name_byte-other table.name named.each in
+    let free = all-other is_name_byte (other 32) name_byte-other table.name allowed.each in
     let starts = bytes_before-here 32 tail in
-    let front = cut-front 32 table.name (32 ∷ tail) free starts in
+    let prefix = cut-prefix 32 table.name (32 ∷ tail) free starts in
     let back = cut-rest 32 table.name (32 ∷ tail) free starts in
     let found : table_number table.name tables ≡ Some number =
     table_number-again number table tables schema.names t.1 in
     let key_free = all-other is_key_byte (other 32) key_byte-other key is.key.each in
-    let key_front = cut-front 32 key (cells_text row) key_free (cells_text-starts row) in
+    let key_prefix = cut-prefix 32 key (cells_text row) key_free (cells_text-starts row) in
     let key_back = cut-rest 32 key (cells_text row) key_free (cells_text-starts row) in
     let name : line_text tables entry ≡ table.name ++ 32 ∷ tail =
     append_assoc (table_name_text (slice_get tables number)) (32 ∷ key) (cells_text row) ∙ ap
     (λ (r : Option TableDef). table_name_text r ++ 32 ∷ tail) t.1 in
     rw (
       name,
-      front,
+      prefix,
       back,
       found,
       t.1,
       rest_after_byte-again 32 tail,
-      key_front,
+      key_prefix,
       key_back,
       checked-again 1 32 is_key_byte key is.key,
       row-again table.columns row is.cells t.2,

@@ -36,6 +36,6 @@ pub record IsHead (line : List ℕ) (head : ReplyHead) : Type 0 where
   pub small_lag : head.lag < 2 ^ 32
   pub spelled : line ≡ head_line head.session head.place head.lag
 
--- a value of which this holds, unless memory ran out
+-- a value of which this holds, or out of memory
 abbrev pub OrNoMemory : {T : Type 0} → Result T TextFault → (T → Type 0) → Type 0
 OrNoMemory result P = MatchResult result P (λ fault. fault ≡ NoMemory)

@@ -36,7 +36,7 @@ fn push_line(
 
 /// The text of rows: a line for each, in the order of the slice, and then the line `rows N`.
 ///
-/// A line has the table's name, the key and the cells, with one blank between two of them. Where
+/// A line has the table's name, the key and the cells, with one blank between two of them. If
 /// the schema has no table of the row's number, the line begins with the blank before the key.
 pub fn rows_text(alloc: Global, schema: &Schema, rows: &[RowEntry]) -> Result<Vec<u8>, NoMemory>
     ensures { IfOk result (λ text. text.items ≡ entries_text schema.now rows.now) }

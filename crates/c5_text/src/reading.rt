@@ -32,7 +32,7 @@ pub(crate) fn count_before(stop: u8, bytes: &[u8]) -> usize
 
 // The bytes after the byte `first`.
 #[tactic(auto, unfolding(crate::specs::Reading::rest_after_byte))]
-pub(crate) fn behind(first: u8, bytes: &[u8]) -> Option<&[u8]>
+pub(crate) fn after_byte(first: u8, bytes: &[u8]) -> Option<&[u8]>
     ensures { GivesOption (λ x. x.now) result (rest_after_byte first bytes.now) }
 {
     match bytes {
@@ -73,14 +73,14 @@ fn int_cell(bytes: &[u8]) -> Option<(Cell, &[u8])>
 fn text_cell(quoted: &[u8]) -> Option<(Cell, &[u8])>
     ensures { GivesOption (λ x. (x.0, x.1.now)) result (printed_text_at quoted.now) }
 {
-    let Some(bytes) = behind(b'"', quoted) else {
+    let Some(bytes) = after_byte(b'"', quoted) else {
         return None;
     };
     let (text, rest) = bytes.split_at(count_before(b'"', bytes));
     let Ok(text) = TextCell::new(text) else {
         return None;
     };
-    match behind(b'"', rest) {
+    match after_byte(b'"', rest) {
         Some(rest) => Some((Cell::Txt(text), rest)),
         None => None,
     }
@@ -91,7 +91,7 @@ fn text_cell(quoted: &[u8]) -> Option<(Cell, &[u8])>
 fn cell_in(cell_type: CellType, bytes: &[u8]) -> Option<(Cell, &[u8])>
     ensures { GivesOption (λ x. (x.0, x.1.now)) result (printed_cell_at cell_type bytes.now) }
 {
-    let Some(bytes) = behind(b' ', bytes) else {
+    let Some(bytes) = after_byte(b' ', bytes) else {
         return None;
     };
     match cell_type {
@@ -130,7 +130,7 @@ fn entry_in(tables: &[TableDef], number: u8, rest: &[u8]) -> Option<RowEntry>
     let Some(table) = tables.get(number as usize) else {
         return None;
     };
-    let Some(bytes) = behind(b' ', rest) else {
+    let Some(bytes) = after_byte(b' ', rest) else {
         return None;
     };
     let (key, cells) = bytes.split_at(count_before(b' ', bytes));

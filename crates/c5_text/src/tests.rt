@@ -2,7 +2,6 @@ use crate::{
     ReplyHead, TextFault, order_text, push_rows, read_head, read_order, read_row, reply_text,
     rows_text,
 };
-use c5_definitions::{lines_of_replies, one_order_and_places};
 use c5_rows::{
     Answer, AnswerLine, Cell, CellType, Columns, Key, Reply, Row, RowEntry, RowName, Rows, Schema,
     TableDef, TableName, TextCell,
@@ -287,23 +286,49 @@ fn heads(rt: HostRuntime) -> Result<(), Fail> {
     Ok(())
 }
 
-// The text of one order and the places 0 and 2, and what its lines give back.
+// The texts of an order, of replies at the places 0 and 2 and of the rows, and what is read from
+// their lines.
 #[test]
 fn an_output_read_back(rt: HostRuntime) -> Result<(), Fail> {
-    one_order_and_places();
-    lines_of_replies();
-    let text = "order 1 0\nread 1 place 0 lag 2\nacct a -\n\
+    let schema = Schema::one(table(b"acct")?);
+    let one = entry(0, b"a", &[Cell::Int(10)])?;
+    let absent = AnswerLine::Absent { name: one.name };
+    let found = AnswerLine::Found {
+        name: one.name,
+        row: one.row,
+    };
+    let want = "order 1 0\nread 1 place 0 lag 2\nacct a -\n\
         read 1 place 2 lag 0\nacct a 10\nacct a 10\nrows 1\n";
-    let mut lines = text.lines();
+    let mut text = order_text(rt.alloc(), &[1, 0])?;
+    for (place, line) in [(0, absent), (2, found)] {
+        assert!(rt; place <= 2);
+        let mut answer = Answer::new(rt.alloc());
+        answer.push(line)?;
+        let reply = Reply {
+            session: 1,
+            place,
+            answer,
+        };
+        let reply = reply_text(rt.alloc(), &schema, &reply, 2)?;
+        text.extend_from_slice(reply.as_slice())?;
+    }
+    text.extend_from_slice(rows_text(rt.alloc(), &schema, &[one])?.as_slice())?;
+    assert_eq!(rt; text.as_slice(), want.as_bytes());
+    let mut lines = want.lines();
     let order = read_order(rt.alloc(), lines.next().ok_or("no order")?.as_bytes())?;
     assert_eq!(rt; order.as_slice(), [1, 0].as_slice());
-    for place in [0, 2] {
+    for (place, lag, row) in [(0, 2, None), (2, 0, Some(one))] {
         let head = read_head(lines.next().ok_or("no head")?.as_bytes()).ok_or("no head")?;
-        assert_eq!(rt; head.place, place);
-        assert!(rt; lines.next().is_some());
+        let want = ReplyHead {
+            session: 1,
+            place,
+            lag,
+        };
+        assert!(rt; head == want);
+        let answer = lines.next().ok_or("no answer")?;
+        assert!(rt; read_row(&schema, answer.as_bytes()) == row);
     }
-    let schema = Schema::one(table(b"acct")?);
     let row = read_row(&schema, lines.next().ok_or("no row")?.as_bytes());
-    assert!(rt; row == Some(entry(0, b"a", &[Cell::Int(10)])?));
+    assert!(rt; row == Some(one));
     Ok(())
 }

@@ -4,7 +4,7 @@ ghost use Rattle.std.specs.Prelude.{◌≡◌, ◌++◌, ℕ, List, [], OnOk, If
 ghost use Rattle.c5_definitions.specs.Outputs.{number_text};
 ghost use Rattle.c5_text.specs.Readers.{IsNumber, IsAfter};
 
-use crate::reading::{behind, count_before};
+use crate::reading::{after_byte, count_before};
 use c5_rows::NoMemory;
 use itoa::Buffer;
 
@@ -39,7 +39,7 @@ pub(crate) fn number_at(bytes: &[u8]) -> Option<(u32, &[u8])>
     ensures found { IfSome result (λ x. IsAfter [] bytes.now x.0 x.1.now) }
     ensures none { IfNone result ((n : ℕ) (rest : List ℕ) → IsAfter [] bytes.now n rest → ⊥) }
 {
-    let Some(rest) = behind(b' ', bytes) else {
+    let Some(rest) = after_byte(b' ', bytes) else {
         return None;
     };
     let (digits, rest) = rest.split_at(count_before(b' ', rest));

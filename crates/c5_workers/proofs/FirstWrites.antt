@@ -160,7 +160,7 @@ module _ (names : List RowName) where
   counted zero le = refl
   counted (suc n) le =
       let write : IsWrite names (suc n) = record { positive = omega arith; within = le } in
-      let named = (rows_are_numbered names).named (suc n) write in
+      let named = (rows_are_numbered names).has_name (suc n) write in
       let more : take (suc n) names ≡ take n names ++ named.0 ∷ [] =
       take-suc names n named.0 (omega arith) ∙ ap (λ (m : RowName). take n names ++ m ∷ [])
       (get_or_from_slice_get names n named.0 named.0 named.1) in

@@ -63,7 +63,7 @@ put-ends : (state : State) → eval (Put row_a ten ∷ []) state ≡ writes ten
 unfolding eval
 put-ends state = rw (noted, found_there state ten) refl
 
--- how the add ends where the row that it needs is this one
+-- how the add ends if the row that it needs is this one
 abbrev added : State → Option (List Cell) → Ending
 added state row = ending_of (elim (effect_of (Add row_a 0 (pos 5)) row) [
   | declines ↦ None

@@ -5,7 +5,7 @@ use Rattle.std.proofs.lemmas.List.{nil_from_length}
 use Rattle.std.proofs.lemmas.Result.{err_from_is_err_and}
 use Rattle.c5_definitions.specs.ScriptParts.{ScriptParts}
 use Rattle.c5_definitions.specs.ScriptSoFar.{ScriptSoFar, is_closed, parts_of}
-use Rattle.c5_definitions.specs.Lines.{lines_of, behind_lines}
+use Rattle.c5_definitions.specs.Lines.{lines_of, after_lines}
 use Rattle.c5_definitions.specs.Script.{front_from}
 use Rattle.c5_script.specs.declared.partial.Taken.{Taken}
 use Rattle.c5_script.specs.Front.{front_line_of}
@@ -14,7 +14,7 @@ use Rattle.c5_script.proofs.FrontLaws.{front-unclosed, front-ends, log-finishes}
 use Rattle.c5_script.proofs.front_parsing.parse_front.Goals as goal
 
 pub loop-rest-init : goal.loop-rest-init
-unfolding behind_lines
+unfolding after_lines
 loop-rest-init c = record {
   whole = front-starts c.args.bytes.now c.new-script.result c.new-script.ensures;
   behind = refl;
@@ -34,7 +34,7 @@ loop-rest-preserved c =
           ∙ front-goes number script next c.first_line.result.0.now (lines_of behind)
           (c.in_ok-take_front_line.ensures.step ∙ ap
           (λ (taken : Taken). Ok (front_line_of next taken)) c.in-More.is);
-      behind = ap (λ (n : ℕ). behind_lines n c.args.bytes.now) more
+      behind = ap (λ (n : ℕ). after_lines n c.args.bytes.now) more
           ∙ behind-next number c.args.bytes.now c.loop-rest.rest.now behind
           c.loop-rest.invariant.some c.loop-rest.invariant.behind c.first_line.ensures.behind;
       some = omega arith;
