@@ -1,5 +1,5 @@
--- An index against the transactions: one more write, one more transaction, more bytes, what stands
--- at a number.
+-- An index against the transactions: one more write, one more transaction, more bytes, what is at a
+-- number.
 use Rattle.std.proofs.Common.{◌≡◌, ◌∙◌, ℕ, zero, suc, ◌+◌, ◌-◌, ◌<◌, ◌≤◌, List, [], ◌∷◌, ◌++◌}
 use Rattle.std.proofs.Common.{length, take, drop, get_or, Some, refl, sym, ap, subst, append_assoc}
 use Rattle.std.proofs.Common.{arith}

@@ -1,7 +1,7 @@
 use Rattle.std.proofs.Common.{ℕ, List, None, sym, subst}
 use Rattle.c5_frames.specs.declared.stage.Stage.TheVariants as stages
 use Rattle.c5_frames.specs.DecoderStates.{Decodes}
-use Rattle.c5_frames.proofs.Fed.{Decodes-start}
+use Rattle.c5_frames.proofs.Pieces.{Decodes-start}
 use Rattle.c5_frames.proofs.decoder.Decoder.new.Goals as goal
 
 pub invariant_of-result : goal.invariant_of-result
