@@ -52,7 +52,7 @@ not_not false e = refl
 
 -- ---- who is taken
 
--- the role of t goes to a new seat; 0 is no role
+-- the role of t goes to a new seat; 0 isn't a role
 abbrev passed : ℕ → ℕ → (ℕ → ℕ) → ℕ → ℕ
 passed t new holder i = cond (t == 0) (holder i) (cond (i == t) new (holder i))
 

@@ -132,7 +132,7 @@ module _ (log : Log) (workers : ℕ) (k : Facts log workers) where
 
   -- ---- the other seats
 
-  -- what changes is no matter of this view's roles
+  -- what changes doesn't concern this view's roles
   pub record Untouched (h : Holders) (written indexed : ℕ) (x y : BoardWords)
       (u : Known) : Type 0 where
     pub installs : (w : ℕ) → Inst y w → is_among (owner_of workers w) u.roles ≡ true → Inst x w

@@ -25,7 +25,7 @@ first_view log workers = record {
   looks = [];
 }
 
--- the view that a joined pass leaves behind: it holds no role, and knows nothing
+-- the view that is left of a joined pass: it holds no role, and knows nothing
 abbrev pub spent_view : Log → ℕ → Known
 spent_view log workers = record {
   log = log;

@@ -14,7 +14,7 @@ use c5_frames::LogBuffer;
 use c5_rows::RowName;
 
 // Whether write w has this name.
-fn is_named(log: &LogBuffer, w: u32, name: &RowName) -> bool
+fn has_name(log: &LogBuffer, w: u32, name: &RowName) -> bool
     requires { (1 ≤ w) × (w ≤ length (writes_of log.now.txns)) }
     ensures { IsTrue result ↔ (name_at (names_in log.now.txns) w ≡ Some name.now) }
 {
@@ -49,7 +49,7 @@ pub fn follow_path(board: &Board<'_>, pass: &mut BoardPass, name: &RowName) -> P
         if w == 0 {
             return PathEnd::Free(bucket);
         }
-        if is_named(log, w, name) {
+        if has_name(log, w, name) {
             return PathEnd::Row(w);
         }
         bucket = next(bucket, buckets);

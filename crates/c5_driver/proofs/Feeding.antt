@@ -34,52 +34,52 @@ use_of left_old left_new faults_old faults_new =
 never : (refusal : Refusal) → None ≡ Some refusal → ⊥
 never refusal e = absurd cc
 
--- what was fed before and now
-pub fed-more : (a b c : Option (List ℕ)) (f0 f1 : ℕ) (old new : List ℕ) → Consumes a b old
+-- what was taken before and now
+pub takes-more : (a b c : Option (List ℕ)) (f0 f1 : ℕ) (old new : List ℕ) → Consumes a b old
     → FeedsSource (use_of b c f0 f1) old new → Consumes a c new
-fed-more a b c f0 f1 old new taken more =
-    subst (Consumes a c) (sym more.fed) (Consumes-trans a b c old more.bytes taken more.taken)
+takes-more a b c f0 f1 old new taken more =
+    subst (Consumes a c) (sym more.appended) (Consumes-trans a b c old more.bytes taken more.taken)
 
 -- why one more read ends the feeding is why the whole input is refused
 pub stops-refuses : (refusal : Refusal) (limit : ℕ) (a b c : Option (List ℕ)) (f0 f1 f2 : ℕ)
-    (fed : List ℕ) → length fed ≤ limit → f1 ≡ f0 → Consumes a b fed
-    → Refuses (limit - length fed) none_refused (use_of b c f1 f2) refusal
+    (bytes : List ℕ) → length bytes ≤ limit → f1 ≡ f0 → Consumes a b bytes
+    → Refuses (limit - length bytes) none_refused (use_of b c f1 f2) refusal
     → Refuses limit none_refused (use_of a c f0 f2) refusal
-stops-refuses refusals.BadWords limit a b c f0 f1 f2 fed within calm taken why = absurd why
-stops-refuses refusals.ReadFault limit a b c f0 f1 f2 fed within calm taken why =
+stops-refuses refusals.BadWords limit a b c f0 f1 f2 bytes within calm taken why = absurd why
+stops-refuses refusals.ReadFault limit a b c f0 f1 f2 bytes within calm taken why =
     let lost = why.1 in
     let few = lost.1 in (
       subst (λ (n : ℕ). Rose n f2) calm why.0,
       (
-        fed ++ lost.0,
-        omega (arith, length-append fed lost.0),
-        Consumes-trans a b c fed lost.0 taken lost.2,
+        bytes ++ lost.0,
+        omega (arith, length-append bytes lost.0),
+        Consumes-trans a b c bytes lost.0 taken lost.2,
       ),
     )
-stops-refuses refusals.TooLong limit a b c f0 f1 f2 fed within calm taken why =
+stops-refuses refusals.TooLong limit a b c f0 f1 f2 bytes within calm taken why =
     let lost = why.0 in
     let many = lost.1 in (
       (
-        fed ++ lost.0,
-        omega (arith, length-append fed lost.0),
-        Consumes-trans a b c fed lost.0 taken lost.2,
+        bytes ++ lost.0,
+        omega (arith, length-append bytes lost.0),
+        Consumes-trans a b c bytes lost.0 taken lost.2,
       ),
       why.1 ∙ calm,
     )
-stops-refuses refusals.NoMemory limit a b c f0 f1 f2 fed within calm taken why =
+stops-refuses refusals.NoMemory limit a b c f0 f1 f2 bytes within calm taken why =
     let lost = why.taken in
     let few = lost.1 in
     record {
       taken = (
-        fed ++ lost.0,
-        omega (arith, length-append fed lost.0),
-        Consumes-trans a b c fed lost.0 taken lost.2,
+        bytes ++ lost.0,
+        omega (arith, length-append bytes lost.0),
+        Consumes-trans a b c bytes lost.0 taken lost.2,
       );
       faultless = why.faultless ∙ calm;
     }
-stops-refuses (refusals.BadScript fault) limit a b c f0 f1 f2 fed within calm taken why =
+stops-refuses (refusals.BadScript fault) limit a b c f0 f1 f2 bytes within calm taken why =
     absurd (never _ why.2)
-stops-refuses (refusals.BadLog fault) limit a b c f0 f1 f2 fed within calm taken why =
+stops-refuses (refusals.BadLog fault) limit a b c f0 f1 f2 bytes within calm taken why =
     absurd (never _ why.2)
-stops-refuses (refusals.Limit excess) limit a b c f0 f1 f2 fed within calm taken why =
+stops-refuses (refusals.Limit excess) limit a b c f0 f1 f2 bytes within calm taken why =
     absurd (never _ why.2)

@@ -30,12 +30,13 @@ grown : (held text : List ℕ) (now : Option (List ℕ)) → Appends (Some held)
 grown held text None grew = absurd grew
 grown held text (Some ys) grew = ap Some grew
 
-told : (left held : Option (List ℕ)) (source : SourceUse) (sink : SinkUse) → source.left_old ≡ left
+headline-of : (left held : Option (List ℕ)) (source : SourceUse) (sink : SinkUse)
+    → source.left_old ≡ left
     → sink.held_old ≡ held → (options : Options) → Prints Clone options source (PrintsAll sink)
     → IfSome left (λ input. IfSome held (λ h. ClonesScript input h source sink))
-told None held source sink is was options p = tt
-told (Some input) None source sink is was options p = tt
-told (Some input) (Some held) source sink is was options p =
+headline-of None held source sink is was options p = tt
+headline-of (Some input) None source sink is was options p = tt
+headline-of (Some input) (Some held) source sink is was options p =
     let took =
     subst (λ (o : Option (List ℕ)). Consumes o source.left_new p.input) is p.read.consumed in
     let same = all-taken input p.input source.left_new took p.read.ended in
@@ -60,4 +61,4 @@ headline-from request status source sink ends options is ok =
     let clone : ProgramEnds (Some (Run Clone options)) statuses.Ok source sink =
     subst (λ (s : Status). ProgramEnds (Some (Run Clone options)) s source sink) ok
     (subst (λ (o : Option Request). ProgramEnds o status source sink) is ends) in
-    told source.left_old sink.held_old source sink refl refl options clone
+    headline-of source.left_old sink.held_old source sink refl refl options clone

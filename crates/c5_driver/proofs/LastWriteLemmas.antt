@@ -61,7 +61,7 @@ abbrev row_by : Option Write → Option (List Cell)
 row_by None = None
 row_by (Some w) = row_of w.change
 
--- what is left where the last write has this number
+-- what is left if the last write has this number
 abbrev left_at : List Write → Option ℕ → Option (List Cell)
 left_at ws None = None
 left_at ws (Some n) = row_by (slice_get ws (n - 1))
@@ -173,7 +173,7 @@ found-pairs q ws (r ∷ rows) up =
 
 -- ---- left by the writes
 
--- what is at a name where its last write has this number, counted from the first
+-- what is at a name if its last write has this number, counted from the first
 abbrev at_or : Option (List Cell) → List Write → ℕ → Option ℕ → Option (List Cell)
 at_or old ws first None = old
 at_or old ws first (Some n) = row_by (slice_get ws (n - first))

@@ -51,21 +51,21 @@ tables-are (x ∷ xs) (y ∷ ys) e =
     (λ i. table-is x y (both-first (is_same_table x y) (are_same_tables xs ys) e) i
     ∷ tables-are xs ys (both-second (is_same_table x y) (are_same_tables xs ys) e) i)
 
--- a test of types that tells them apart
-pub record TellsTypes (test : CellType → CellType → Bool) : Type 0 where
+-- a test that is true for equal types alone
+pub record IsTypeTest (test : CellType → CellType → Bool) : Type 0 where
   pub ii : test Int Int ≡ true
   pub it : test Int Text ≡ false
   pub ti : test Text Int ≡ false
   pub xx : test Text Text ≡ true
 
-same-type : (test : CellType → CellType → Bool) → TellsTypes test → (a b : CellType)
+same-type : (test : CellType → CellType → Bool) → IsTypeTest test → (a b : CellType)
     → test a b ≡ is_same_type a b
 same-type test h Int Int = h.ii
 same-type test h Int Text = h.it
 same-type test h Text Int = h.ti
 same-type test h Text Text = h.xx
 
-same-types : (test : CellType → CellType → Bool) → TellsTypes test → (xs ys : List CellType)
+same-types : (test : CellType → CellType → Bool) → IsTypeTest test → (xs ys : List CellType)
     → pointwise test xs ys ≡ are_same_types xs ys
 same-types test h [] [] = refl
 same-types test h [] (y ∷ ys) = refl
@@ -73,7 +73,7 @@ same-types test h (x ∷ xs) [] = refl
 same-types test h (x ∷ xs) (y ∷ ys) = (λ i. same-type test h x y i && same-types test h xs ys i)
 
 pub same-tables : (test : CellType → CellType → Bool) (of : TableDef → TableDef → Bool)
-    → TellsTypes test
+    → IsTypeTest test
     → ((a b : TableDef) → of a b ≡ (bytes_eq a.name b.name && pointwise test a.columns b.columns))
     → (xs ys : List TableDef) → pointwise of xs ys ≡ are_same_tables xs ys
 same-tables test of h says [] [] = refl

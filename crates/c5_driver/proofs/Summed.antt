@@ -73,12 +73,12 @@ pub replay-is : (count : ℕ) (script : ScriptParts) (txns : List Txn) (replies 
     (rows : State) → script ≡ generated_script count → txns ≡ txns_in_number_order script
     → IsReplayOver script txns replies rows → IsGenerated count script txns replies rows
 replay-is count script txns replies rows is run h =
-    let ran : txns ≡ generated_txns count = run ∙ ap txns_in_number_order is ∙ run-is count in
-    let many : length txns ≡ count = ap length ran ∙ run-length count in
+    let made : txns ≡ generated_txns count = run ∙ ap txns_in_number_order is ∙ run-is count in
+    let many : length txns ≡ count = ap length made ∙ run-length count in
     let replied : replies ≡ generated_replies count h.places =
-    h.replied ∙ (λ i. replies_at no_rows (ran i) (in_reply_order (is i).reads) h.places) in
+    h.replied ∙ (λ i. replies_at no_rows (made i) (in_reply_order (is i).reads) h.places) in
     let after : rows ≡ generated_state count count =
-    h.after ∙ ap (λ ts. after_txns ts no_rows) ran ∙ all-after count in
+    h.after ∙ ap (λ ts. after_txns ts no_rows) made ∙ all-after count in
     record {
       places = h.places;
       lawful =
@@ -88,7 +88,7 @@ replay-is count script txns replies rows is run h =
           h.places) is h.lawful);
       replied = replied;
       after = after;
-      same = λ i. summary_of (is i).tables (ran i) (rows_of (after i)) (replied i);
+      same = λ i. summary_of (is i).tables (made i) (rows_of (after i)) (replied i);
     }
 
 -- the rows are few enough to be added

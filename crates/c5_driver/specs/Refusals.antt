@@ -59,7 +59,7 @@ limit_line excesses.Rows = codes "limit rows\n"
 
 -- a place and what is wrong there
 abbrev pub place_line : List ℕ → ℕ → List ℕ → List ℕ
-place_line front place ending = front ++ decimal place ++ ending
+place_line start place ending = start ++ decimal place ++ ending
 
 -- the line that reports a refusal; a failed read and running out of memory have none
 abbrev pub line_of : Refusal → List ℕ

@@ -15,7 +15,7 @@ ghost use Rattle.c5_driver.specs.Meanings.{IsRowsAfter, log_refusal, MakesText};
 ghost use Rattle.c5_driver.specs.Uses.{source_use};
 
 use crate::command::input_limit;
-use crate::decoding::{fed_whole, log_in};
+use crate::decoding::{decoder_of_source, log_in};
 use crate::limits::rows_within;
 use crate::refusal::Refusal;
 use c5_frames::{Decoder, LogBuffer};
@@ -89,7 +89,7 @@ fn text_after(alloc: Global, log: LogBuffer, rows: &[WrittenRow]) -> Result<Vec<
     rows_text(alloc, &schema, &entries)
 }
 
-// The text of the rows after the log that was fed, or why there is none.
+// The text of the rows after the log that the decoder has taken, or why there is none.
 fn text_of_log(alloc: Global, decoder: Decoder) -> Result<Vec<u8>, Refusal>
     ensures text { IfOk result (λ text. IsRowsAfter decoder text.items) }
     ensures accepted { OnOk result (log_refusal decoder ≡ None) }
@@ -108,6 +108,6 @@ pub fn apply<S: Source>(alloc: Global, options: Options, source: &mut S) -> Resu
     ensures { MakesText Command.Apply options
         (source_use S.left S.faults source.old source.new) result }
 {
-    let decoder = fed_whole(alloc, source, input_limit(Command::Apply))?;
+    let decoder = decoder_of_source(alloc, source, input_limit(Command::Apply))?;
     text_of_log(alloc, decoder)
 }

@@ -60,7 +60,7 @@ fn feed_next<S: Source>(
     requires within { length decoder.old ≤ limit }
     requires piece { 1 ≤ length piece.old }
     ensures within { length decoder.new ≤ limit }
-    ensures fed { OnOk result
+    ensures taken { OnOk result
         (FeedsSource (source_use S.left S.faults source.old source.new) decoder.old decoder.new) }
     ensures end { IfOk result (λ ended. ended ≡ true → IsAtEnd (S.left source.new)) }
     ensures more { IfOk result (λ ended. ended ≡ false → length decoder.old < length decoder.new) }
@@ -101,8 +101,12 @@ fn feed_all<S: Source>(
     }
 }
 
-/// A decoder that was given all that the source had left, up to `limit` bytes.
-pub fn fed_whole<S: Source>(alloc: Global, source: &mut S, limit: usize) -> Result<Decoder, Refusal>
+/// A decoder that has taken all that the source had left, up to `limit` bytes.
+pub fn decoder_of_source<S: Source>(
+    alloc: Global,
+    source: &mut S,
+    limit: usize,
+) -> Result<Decoder, Refusal>
     requires { limit ≤ max_log_bytes }
     ensures { ReadsInput limit none_refused (λ input decoder. decoder ≡ input)
         (source_use S.left S.faults source.old source.new) result }
@@ -128,7 +132,7 @@ pub fn decoder_of(alloc: Global, bytes: Vec<u8>) -> Result<Decoder, Refusal>
     }
 }
 
-/// The log that was fed, or its first fault.
+/// The log that the decoder has taken, or its first fault.
 pub fn log_in(decoder: Decoder) -> Result<LogBuffer, Refusal>
     ensures read { IfOk result (λ log.
         log_of decoder ≡ Ok (record { tables = log.tables; txns = log.txns })) }

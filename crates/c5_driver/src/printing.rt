@@ -38,7 +38,7 @@ pub fn print<K: Sink>(sink: &mut K, text: &[u8]) -> Status
 }
 
 // Writes a line and flushes. A failed call is ignored.
-fn tell<K: Sink>(sink: &mut K, line: &[u8])
+fn report<K: Sink>(sink: &mut K, line: &[u8])
     ensures { PrintsLine (sink_use K.held K.faults K.flushed sink.old sink.new) line.now }
 {
     match write_all(sink, line) {
@@ -52,29 +52,29 @@ fn tell<K: Sink>(sink: &mut K, line: &[u8])
 // Writes three parts of a line, one after the other, up to the first failure.
 fn write_parts<K: Sink>(
     sink: &mut K,
-    front: &[u8],
+    start: &[u8],
     middle: &[u8],
     ending: &[u8],
 ) -> Result<(), Failed>
     ensures written { AppendsPrefix (K.held sink.old) (K.held sink.new)
-        (front.now ++ middle.now ++ ending.now) }
+        (start.now ++ middle.now ++ ending.now) }
     ensures whole { OnOk result (Appends (K.held sink.old) (K.held sink.new)
-        (front.now ++ middle.now ++ ending.now)) }
+        (start.now ++ middle.now ++ ending.now)) }
     ensures cause { HasCause (K.faults sink.old) (K.faults sink.new) result }
 {
-    write_all(sink, front)?;
+    write_all(sink, start)?;
     write_all(sink, middle)?;
     write_all(sink, ending)?;
     Ok(())
 }
 
 // Writes a line with a number in its middle and flushes. A failed call is ignored.
-fn tell_place<K: Sink>(sink: &mut K, front: &[u8], place: u32, ending: &[u8])
+fn report_place<K: Sink>(sink: &mut K, start: &[u8], place: u32, ending: &[u8])
     ensures { PrintsLine (sink_use K.held K.faults K.flushed sink.old sink.new)
-        (place_line front.now place ending.now) }
+        (place_line start.now place ending.now) }
 {
     let mut digits = Buffer::new();
-    match write_parts(sink, front, digits.format(place).as_bytes(), ending) {
+    match write_parts(sink, start, digits.format(place).as_bytes(), ending) {
         Ok(()) => {
             let _ = finish(sink);
         }
@@ -141,23 +141,23 @@ pub fn refuse<K: Sink>(sink: &mut K, refusal: Refusal)
     ensures untouched { line_of refusal ≡ [] → sink.new ≡ sink.old }
 {
     match refusal {
-        Refusal::BadWords => tell(sink, b"bad words\n"),
-        Refusal::TooLong => tell(sink, b"too long\n"),
-        Refusal::BadScript(fault) => tell_place(
+        Refusal::BadWords => report(sink, b"bad words\n"),
+        Refusal::TooLong => report(sink, b"too long\n"),
+        Refusal::BadScript(fault) => report_place(
             sink,
             b"bad script line ",
             fault.line,
             ending_of_script(fault.kind),
         ),
         Refusal::BadLog(fault) => {
-            tell_place(
+            report_place(
                 sink,
                 b"bad log at ",
                 fault.offset,
                 ending_of_log(fault.kind),
             )
         }
-        Refusal::Limit(excess) => tell(sink, line_of_limit(excess)),
+        Refusal::Limit(excess) => report(sink, line_of_limit(excess)),
         Refusal::ReadFault | Refusal::NoMemory => {}
     }
 }

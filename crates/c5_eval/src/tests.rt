@@ -7,7 +7,7 @@ use std::alloc::Global;
 use std::process::Abort;
 use std::test::Fail;
 
-// A key and its number; `None` where the row is absent.
+// A key and its number; `None` if the row is absent.
 type Entry = (&'static [u8], Option<i64>);
 
 fn name(key: &[u8]) -> Result<RowName, Fail> {
@@ -279,7 +279,7 @@ fn a_refusal_is_handed_on(rt: HostRuntime) -> Result<(), Fail> {
 }
 
 #[test]
-fn a_text_is_no_number(rt: HostRuntime) -> Result<(), Fail> {
+fn a_text_is_not_a_number(rt: HostRuntime) -> Result<(), Fail> {
     let alloc = rt.alloc();
     let row = Row::new(&[Cell::Txt(TextCell::new(b"7")?)]).ok_or("one cell")?;
     let body = body_of(

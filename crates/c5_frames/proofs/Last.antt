@@ -13,7 +13,7 @@ use Rattle.c5_frames.specs.Payloads.{name_of}
 use Rattle.c5_frames.specs.Index.{Found, writes_of, LiesAt, IsIndex}
 use Rattle.c5_frames.proofs.Indexing.{LieAt-get, open-length}
 
--- an element behind the first list
+-- an element after the first list
 pub slice_get-behind : {X : Type 0} (xs ys : List X) (k i : ℕ) → k ≡ length xs + i
     → slice_get (xs ++ ys) k ≡ slice_get ys i
 slice_get-behind [] ys k i e = ap (slice_get ys) (omega (arith, e))

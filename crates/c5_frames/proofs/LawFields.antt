@@ -20,7 +20,7 @@ use Rattle.c5_definitions.specs.declared.fault.LogKind.{LogKind}
 use Rattle.c5_definitions.specs.Numbers.{number_32, number_64, signed_64}
 use Rattle.c5_definitions.specs.Steps.{◌>>=◌, or_cause}
 
--- each place holds a byte; behind the end 0 counts
+-- each place holds a byte; after the end 0 counts
 abbrev pub IsBytes : List ℕ → Type 0
 IsBytes bytes = (i : ℕ) → get_or bytes i 0 < 256
 

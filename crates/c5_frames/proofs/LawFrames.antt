@@ -167,7 +167,7 @@ txns-read tables before stamp (txn ∷ txns) rest last each lawful rise then =
 
 -- ---- a whole log
 
--- behind the end mark
+-- after the end mark
 abbrev pub ended : List TableDef → List Txn → LogSoFar
 ended tables txns =
     record {

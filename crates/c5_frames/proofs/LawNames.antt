@@ -18,7 +18,7 @@ FreeOf earlier [] = Unit {0}
 FreeOf earlier (table ∷ tables) = (table_number table.name earlier ≡ None)
     × FreeOf (earlier ++ table ∷ []) tables
 
--- ---- the names of a schema are new, each behind those before it
+-- ---- the names of a schema are new, each after those before it
 
 bytes_eq-swap : (a b : List ℕ) → bytes_eq a b ≡ bytes_eq b a
 bytes_eq-swap a b = nat_list_eq_equiv.symm a b

@@ -91,7 +91,7 @@ pub after_bytes-count : (r next : Reading) (bytes : List ℕ) → after_bytes r 
 after_bytes-count r next bytes e =
     counted (after_bytes r bytes) (count_of r + length bytes) (bytes-count r bytes) next e
 
--- a fault is at one of the bytes, or behind the last one
+-- a fault is at one of the bytes, or after the last one
 pub after_bytes-within : (r : Reading) (bytes : List ℕ) (fault : LogFault)
     → after_bytes r bytes ≡ Err fault → fault.offset ≤ (r.offset + length r.come) + length bytes
 after_bytes-within r bytes fault e =

@@ -23,7 +23,7 @@ use Rattle.c5_frames.proofs.LawFrames.{log-read, ended}
 use Rattle.c5_frames.proofs.LawOffsets.{log_of-within, after_bytes-count}
 use Rattle.c5_frames.proofs.LawSound.{log_is_spelled}
 
--- each place of a list of bytes, also one behind its end, which counts as 0
+-- each place of a list of bytes, also one after its end, which counts as 0
 pub octets-small : (bytes : List ℕ) → AreOctets bytes → (i : ℕ) → get_or bytes i 0 < 256
 octets-small bytes octets i =
     elim (cases_lt i (length bytes)) [
@@ -43,7 +43,7 @@ pub log_of-octets : (bytes : List ℕ) → AreOctets bytes → (log : LogParts) 
     → Spells bytes log.tables log.txns
 log_of-octets bytes octets log e = log_is_spelled bytes (octets-small bytes octets) log e
 
--- all bytes of a log lead behind its end mark
+-- all bytes of a log lead to the place after its end mark
 pub spells-after_bytes : (bytes : List ℕ) (tables : List TableDef) (txns : List Txn)
     → Spells bytes tables txns → (stop : ℕ)
     × (after_bytes at_start bytes ≡ Ok (at_item (ended tables txns) stop))
@@ -56,7 +56,7 @@ spells-log_of bytes tables txns spells =
     let read = spells-after_bytes bytes tables txns spells in
     ap (λ (r : Result Reading LogFault). r >>= whole) read.1
 
--- ---- one log, and nothing behind it
+-- ---- one log, and nothing after it
 
 pub spells-one : (bytes : List ℕ) (tables others : List TableDef) (txns more : List Txn)
     → Spells bytes tables txns → Spells bytes others more → (tables ≡ others) × (txns ≡ more)
@@ -71,7 +71,7 @@ never {A} {E} x cause r ok err =
     let clash : done {E = E} x ≡ Err cause = sym ok ∙ err in
     cc
 
--- a byte behind the end mark is the fault
+-- a byte after the end mark is the fault
 pub after_end-byte : (tables : List TableDef) (txns : List Txn) (stop byte : ℕ) (bytes : List ℕ)
     → after_bytes (at_item (ended tables txns) stop) (byte ∷ bytes)
     ≡ Err (record { offset = stop; kind = kinds.After })
@@ -195,7 +195,7 @@ log_fault_of-stays front rest fault e other =
     (fault-stays front rest fault
     (found-before front fault (log_fault_of-some front fault e) other))
 
--- ---- the fronts of a log
+-- ---- the prefixes of a log
 
 -- at the end of the input an item other than the last one is cut
 cut-at : (item : Item) (r : Reading)

@@ -88,7 +88,7 @@ put_write-last entry (first ∷ writes) up above =
 
 -- ---- payloads
 
--- a payload behind its length is a frame
+-- a payload after its length is a frame
 framed : (front item : List ℕ) (size : ℕ) → length item ≡ size
     → (front ++ spelled_u32 size) ++ item ≡ front ++ spelled_frame item
 unfolding spelled_frame

@@ -9,7 +9,7 @@ pub mod Last
 pub mod Types
 pub mod Plain
 pub mod ReadyPlain
-pub mod Fed
+pub mod Pieces
 pub mod Held
 pub mod LawFields
 pub mod LawPayloads

@@ -78,7 +78,7 @@ cells-step columns i d bytes read lt is =
     ∙ ap (λ (r : Result (List ℕ) LogKind). r
     >>= λ after. unread (cells_at (drop (i + 1) columns) after)) is
 
--- behind one cell more the same is left to read
+-- after one cell more the same is left to read
 pub cells-more : (columns : List CellType) (i : ℕ) (d : CellType) (bytes after : List ℕ)
     (total : Result (List ℕ) LogKind)
     → i < length columns → unread (cell_at (get_or columns i d) bytes) ≡ Ok after

@@ -1,4 +1,4 @@
--- The items that are no payload: what they leave, and what is due behind them.
+-- The items that aren't payloads: what they leave, and what is due after them.
 use Rattle.std.proofs.Common.{◌≡◌, ◌∙◌, ℕ, zero, suc, ◌-◌, ◌≤◌, Bool, true, false, cond, ltb, eqb}
 use Rattle.std.proofs.Common.{◌||◌, Option, Some, None, List, [], ◌∷◌, ◌++◌, length, Result, Ok}
 use Rattle.std.proofs.Common.{Err, refl, sym, ap, subst, arith}

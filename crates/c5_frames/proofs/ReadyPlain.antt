@@ -1,4 +1,4 @@
--- A decoder that is ready takes the next item that is no payload, or finds its fault.
+-- A decoder that is ready takes the next item that isn't a payload, or finds its fault.
 use Rattle.std.proofs.Common.{◌≡◌, ◌∙◌, ℕ, ◌+◌, ◌-◌, ◌<◌, ◌≤◌, List, length, Option, Ok, Err, sym}
 use Rattle.std.proofs.Common.{ap, subst, arith}
 use Rattle.c5_rows.specs.declared.tables.TableDef.{TableDef}

@@ -74,7 +74,7 @@ checked-ok least most allowed bytes x e =
 
 -- ---- texts
 
--- a byte of length, and the text behind it
+-- a byte of length, and the text after it
 pub record IsText (bytes : List ℕ) (x : Cell × List ℕ) : Type 0 where
   pub some : 0 < length bytes
   pub fits : get_or bytes 0 0 ≤ length (drop 1 bytes)
@@ -179,7 +179,7 @@ pub row-start : (columns : List CellType) (bytes : List ℕ) → HoldRow columns
     → cells_at (drop 0 columns) bytes ≡ Ok (drop 0 (cells_held columns bytes), [])
 row-start columns bytes h = row-cells columns bytes (cells_held columns bytes) h
 
--- the cell of a column, and the bytes of those behind it
+-- the cell of a column, and the bytes of those after it
 pub record IsNext (columns : List CellType) (i : ℕ) (column : CellType) (bytes : List ℕ)
     (cells : List Cell) : Type 0 where
   pub cell : Cell
@@ -217,7 +217,7 @@ next-cell columns i d bytes cells lt e =
           (λ (rest : List ℕ). Ok (drop (i + 1) cells, rest)) none;
     }
 
--- the same, seen by a function that gives the cell and the bytes behind it
+-- the same, seen by a function that gives the cell and the bytes after it
 pub next-read : (columns : List CellType) (i : ℕ) (d : CellType) (bytes after : List ℕ)
     (cell : Cell) (cells : List Cell)
     → i < length columns → cells_at (drop i columns) bytes ≡ Ok (drop i cells, [])
@@ -250,7 +250,7 @@ take-next {A} xs i x rest e =
     take_more xs i x (slice_get_within xs i x found) ∙ ap (λ (y : A). take i xs ++ y ∷ [])
     (get_or_from_slice_get xs i x x found)
 
--- behind the next cell are the others
+-- after the next cell are the others
 pub next-behind : (columns : List CellType) (i : ℕ) (d : CellType) (bytes after : List ℕ)
     (cells : List Cell)
     → i < length columns → cells_at (drop i columns) bytes ≡ Ok (drop i cells, [])
@@ -271,7 +271,7 @@ int-read bytes x e =
     ap (λ (y : Cell × List ℕ). text_bytes_of y.0)
     (sym (ok_is (Int (signed_64 bytes), drop 8 bytes) x long.1))
 
--- a cell of numbers is no text
+-- a cell of numbers isn't a text
 pub int-no-text : (column : CellType) (bytes after : List ℕ) (cell : Cell) → column ≡ types.Int
     → cell_at column bytes ≡ Ok (cell, after) → text_bytes_of cell ≡ None
 int-no-text column bytes after cell is e =

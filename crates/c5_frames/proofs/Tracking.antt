@@ -126,7 +126,7 @@ Faults-item bytes s t kind whole bad =
     t.reads ∙ item-fault (so_far_of s t.txns t.writes) s.at bytes kind whole
     (IsDue-some s.next s.tables t.due) bad
 
--- what reading comes to behind the next item
+-- what reading comes to after the next item
 pub reads-next : (bytes : List ℕ) (s : DecodedState) (t : Tracks bytes s) (next : LogSoFar)
     → HasWhole bytes s
     → after_item s.next (so_far_of s t.txns t.writes) (item_at bytes s.at (size_of s.next))

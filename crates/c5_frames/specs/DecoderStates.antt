@@ -115,7 +115,7 @@ abbrev pub IsPlain : Item → Type 0
 IsPlain (frame_payload size) = ⊥
 IsPlain item = Unit {0}
 
--- what the bytes that were fed lead to: a fault, or a state with less than an item after it
+-- what the bytes that were taken lead to: a fault, or a state with less than an item after it
 abbrev pub ComesTo : List ℕ → DecoderState → Option LogFault → Type 0
 ComesTo bytes p None = Tracks bytes (decoded_state p)
     × (length bytes < p.at + size_of (item_of p.stage))

@@ -1,4 +1,4 @@
--- How a decoder holds the bytes that were fed, and what they lead to.
+-- How a decoder holds the bytes that were taken, and what they lead to.
 use Rattle.std.specs.Prelude.{ℕ, List}
 use Rattle.c5_frames.specs.declared.decoder.Decoder.TheInside.{Inside}
 use Rattle.c5_frames.specs.DecoderStates.{Decodes}

@@ -6,7 +6,7 @@ use Rattle.c5_frames.specs.Log.{Log}
 use Rattle.c5_frames.specs.declared.decoder.FeedFault.{FeedFault}
 use Rattle.c5_frames.specs.declared.decoder.FeedFault.TheVariants as faults
 
--- the piece follows the bytes that were fed, which have no fault so far, or this one; or
+-- the piece follows the bytes that were taken, which have no fault so far, or this one; or
 -- nothing has changed
 abbrev pub Feeds : {A : Type 0} → List ℕ → List ℕ → List ℕ → Result A FeedFault → Type 0
 Feeds old piece new (Ok done) = (new ≡ old ++ piece) × (r : Reading)

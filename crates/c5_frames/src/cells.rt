@@ -55,7 +55,7 @@ fn first_cell(cell_type: CellType, bytes: &[u8]) -> (Cell, &[u8])
 
 // The bytes after the cell.
 #[tactic(auto, unfolding(c5_definitions::specs::Frames::cell_at))]
-fn behind_cell(cell_type: CellType, bytes: &[u8]) -> &[u8]
+fn after_cell(cell_type: CellType, bytes: &[u8]) -> &[u8]
     requires { Reads (cell_at cell_type bytes.now) }
     ensures { unread (cell_at cell_type bytes.now) ≡ Ok result.now }
 {
@@ -74,7 +74,7 @@ fn cells_from<'a>(columns: &[CellType], bytes: &'a [u8], col: usize) -> &'a [u8]
 {
     let mut rest = bytes;
     for cell_type in &columns[..col] {
-        rest = behind_cell(*cell_type, rest);
+        rest = after_cell(*cell_type, rest);
     }
     rest
 }

@@ -22,10 +22,10 @@ use std::alloc::Global;
 use std::marker::Model;
 use thiserror::Error;
 
-/// Why a piece of a log was not taken, or is of no log.
+/// Why a piece of a log was not taken, or why the bytes aren't those of a log.
 #[derive(Debug, Drop, Error)]
 pub enum FeedFault {
-    /// The bytes that were fed have a fault.
+    /// The bytes that were taken have a fault.
     #[error("the log is faulty")]
     Log(LogFault),
     /// Memory was refused.
@@ -47,8 +47,8 @@ fn take_piece(
         (HasRoom (length bytes.new.items - progress.new.at) progress.new.index) }
     ensures err { OnErr result (bytes.new.items ≡ bytes.old.items) }
 {
-    let behind = bytes.len() + piece.len() - progress.at as usize;
-    progress.index.reserve(behind)?;
+    let untaken = bytes.len() + piece.len() - progress.at as usize;
+    progress.index.reserve(untaken)?;
     bytes.extend_from_slice(piece)?;
     Ok(())
 }
@@ -166,7 +166,7 @@ fn finish_log(bytes: Vec<u8>, progress: DecoderState) -> Result<LogBuffer, LogFa
     }
 }
 
-/// Decodes a log that comes in pieces. To contracts it is the bytes that were fed.
+/// Decodes a log that comes in pieces. To contracts it is the bytes that were taken.
 #[derive(Drop)]
 pub struct Decoder {
     bytes: Vec<u8>,
@@ -188,7 +188,7 @@ impl Model for Decoder {
 }
 
 impl Decoder {
-    /// Nothing has been fed.
+    /// No bytes have been taken.
     pub fn new(alloc: Global) -> Self
         ensures { result ≡ [] }
     {
@@ -214,15 +214,15 @@ impl Decoder {
         })
     }
 
-    /// The number of bytes that were fed.
+    /// The number of bytes that were taken.
     pub fn fed(&self) -> u32
         ensures { result ≡ length self.now }
     {
         self.bytes.len() as u32
     }
 
-    /// Takes the next piece. `NoMemory` changes nothing; `Log` is the fault of the bytes that were
-    /// fed.
+    /// Takes the next piece. `NoMemory` changes nothing; `Log` is the fault of all bytes that were
+    /// taken, with this piece.
     pub fn feed(&mut self, piece: &[u8]) -> Result<(), FeedFault>
         requires { length self.old + length piece.now ≤ max_log_bytes }
         ensures { Feeds self.old piece.now self.new result }
@@ -230,11 +230,11 @@ impl Decoder {
         feed_piece(&mut self.bytes, &mut self.progress, &mut self.fault, piece)
     }
 
-    /// The log of all bytes that were fed, or their fault.
+    /// The log of all bytes that were taken, or their fault.
     pub fn finish(self) -> Result<LogBuffer, LogFault>
         ensures read { FinishesLog self result }
         ensures spelled { IfOk result (λ log. Spells self log.tables log.txns) }
-        // Bytes with a fault are the spelling of no log.
+        // Bytes with a fault don't spell a log.
         ensures refused { IfErr result
             (λ fault. (tables : List TableDef) (txns : List Txn) → Spells self tables txns → ⊥) }
     {

@@ -1,4 +1,4 @@
-//! The items that are no payload.
+//! The items that aren't payloads.
 
 ghost use Rattle.std.specs.Prelude.{◌≡◌, ◌≤◌, ◌<◌, ◌-◌, ◌==◌, ◌++◌, ◌∷◌, ℕ, List, [], None};
 ghost use Rattle.std.specs.Prelude.{is_some, length, if◌then◌else◌};
@@ -192,14 +192,14 @@ fn after_column_types(
     match columns_in(item) {
         Ok(columns) => {
             add_table(schema, TableDef { name, columns });
-            Ok(stage_behind_table(missing))
+            Ok(stage_after_table(missing))
         }
         Err(kind) => Err(kind),
     }
 }
 
-// Behind the last table the frames begin.
-fn stage_behind_table(missing: u8) -> Stage
+// The frames begin after the last table.
+fn stage_after_table(missing: u8) -> Stage
     requires { 1 ≤ missing }
     ensures { item_of result ≡ (if missing == 1 then frame_length else name_length (missing - 1)) }
 {

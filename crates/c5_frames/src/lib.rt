@@ -1,6 +1,6 @@
 //! Decodes a log that comes in pieces, however it is cut, and spells one. A log has one spelling,
 //! and bytes that aren't a log have a first fault: where it is, and which test fails there. What is
-//! decoded lies in the bytes that were fed, and its writes are borrowed from them.
+//! decoded lies in the bytes that were taken, and its writes are borrowed from them.
 //!
 //! | part | bytes |
 //! |---|---|

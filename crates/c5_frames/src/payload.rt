@@ -110,7 +110,7 @@ fn skip_cell(cell_type: CellType, bytes: &[u8]) -> Result<&[u8], LogKind>
     }
 }
 
-// Behind a cell for each column.
+// The bytes after a cell for each column.
 fn skip_cells<'a>(columns: &[CellType], bytes: &'a [u8]) -> Result<&'a [u8], LogKind>
     ensures { Gives (λ x. x.now) result (unread (cells_at columns.now bytes.now)) }
 {

@@ -16,7 +16,7 @@ appends_more a b c text n m first second =
     subst (Appends a c) (sym (take-add n m text))
     (Appends-trans a b c _ _ first (rw rest at second))
 
--- a buffer was filled up to n, then longer, and then m bytes were read behind the n
+-- a buffer was filled up to n, then longer, and then m bytes were read after the n
 pub consumes_filled : (a b c : Option (List ℕ)) (old longer new : List ℕ) (n m : ℕ)
     → take n longer ≡ take n old → take n new ≡ take n longer
     → Consumes a b (take n old) → Consumes b c (take m (drop n new))

@@ -88,7 +88,7 @@ impl Source for MemorySource {
             self.faults = self.faults.saturating_add(1);
             return Err(Failed);
         }
-        let count = copy_front(&self.bytes[self.at..], into, self.step);
+        let count = copy_prefix(&self.bytes[self.at..], into, self.step);
         self.at += count;
         Ok(count)
     }
@@ -135,14 +135,14 @@ impl Source for PlainSource {
         ensures copied { IfOk result (λ n. into.new ≡ take n self.old ++ drop n into.old) }
         ensures rest { IfOk result (λ n. self.new ≡ drop n self.old) }
     {
-        let count = copy_front(&self.bytes[self.at..], into, usize::MAX);
+        let count = copy_prefix(&self.bytes[self.at..], into, usize::MAX);
         self.at += count;
         Ok(count)
     }
 }
 
 // Copies as many bytes as both have, at most `most`, and says how many.
-fn copy_front(from: &[u8], into: &mut [u8], most: usize) -> usize
+fn copy_prefix(from: &[u8], into: &mut [u8], most: usize) -> usize
     requires { 1 ≤ most }
     ensures count { result ≡ min (min most (length from.now)) (length into.old) }
     ensures copied { into.new ≡ take result from.now ++ drop result into.old }

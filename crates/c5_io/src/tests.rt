@@ -140,18 +140,25 @@ fn refused_memory_is_reported(rt: HostRuntime) {
     assert!(rt; matches!(answer, Err(NoMemory)));
 }
 
-fn pass_all<G: Gate>(gate: &G) {
+// How many of five roles a gate lets through, each at its first turn and at its last one.
+fn passes<G: Gate>(gate: &G) -> u32 {
+    let mut passed: u32 = 0;
     for role in [
         Role::Primary(0),
+        Role::Scheduler,
         Role::Worker(1),
         Role::Snapshot,
         Role::Session(2),
     ] {
-        gate.pass(role, 7);
+        for turn in [1, u64::MAX] {
+            gate.pass(role, turn);
+            passed = passed.saturating_add(1);
+        }
     }
+    passed
 }
 
 #[test]
-fn an_open_gate_returns() {
-    pass_all(&OpenGate);
+fn an_open_gate_lets_each_role_through(rt: HostRuntime) {
+    assert_eq!(rt; passes(&OpenGate), 10);
 }

@@ -56,7 +56,7 @@ fn make_room(bytes: &mut Vec<u8>, filled: usize, limit: usize) -> Result<(), All
     requires within { filled ≤ limit }
     requires limit { limit < usize.MAX }
     requires len { vec_len bytes.old ≤ limit + 1 }
-    ensures front { take filled bytes.new.items ≡ take filled bytes.old.items }
+    ensures prefix { take filled bytes.new.items ≡ take filled bytes.old.items }
     ensures room { OnOk result (filled < vec_len bytes.new) }
     ensures len { vec_len bytes.new ≤ limit + 1 }
 {
@@ -70,7 +70,7 @@ fn make_room(bytes: &mut Vec<u8>, filled: usize, limit: usize) -> Result<(), All
 // One read into `bytes` after its first `at`.
 fn read_tail<S: Source>(source: &mut S, bytes: &mut [u8], at: usize) -> Result<usize, Failed>
     requires { at < length bytes.old }
-    ensures front { take at bytes.new ≡ take at bytes.old }
+    ensures prefix { take at bytes.new ≡ take at bytes.old }
     ensures fits { IfOk result (λ n. at + n ≤ length bytes.new) }
     ensures ok { IfOk result
         (λ n. Consumes (S.left source.old) (S.left source.new) (take n (drop at bytes.new))) }

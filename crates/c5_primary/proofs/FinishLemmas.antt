@@ -278,7 +278,7 @@ begins last h script left none low =
     ∙ entry-is (open_stamp script (open_txns h)) (last_stamp last h)
     (ap (open_stamp script) none) low
 
--- a begin finds no fault but the want of memory
+-- a begin has no fault but out of memory
 pub begins-only : (last : ℕ) (h : List Entry) (script : ℕ) (result : Result ℕ BeginFault)
     (fault : BeginFault) → committed_stamp script (committed h) ≡ None → open_txns h ≡ []
     → last_stamp last h + 1 < 2 ^ 64

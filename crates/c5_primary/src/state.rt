@@ -43,7 +43,7 @@ pub struct SessionState {
 /// What the reads of the one open transaction of an order book leave as it is. No value of it is
 /// made.
 pub struct HeldBase {
-    /// The reference that the book is behind.
+    /// The reference through which the book is reached.
     pub reference: u64,
     /// What the book was made with.
     pub base: OrderBase,

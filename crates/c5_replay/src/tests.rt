@@ -1,13 +1,14 @@
-ghost use Rattle.std.specs.Prelude.{◌≡◌, ◌≤◌, length, IfOk};
+ghost use Rattle.std.specs.Prelude.{◌≤◌, length};
 
 use super::*;
 use c5_definitions::{ReadLine, TurnWord};
 use c5_frames::{Decoder, LogBuffer};
 use c5_io::{Gate, OpenGate, Role};
 use c5_plan::plan;
-use c5_rows::{AnswerLine, Cell, Key, RowName, Rows};
+use c5_rows::{AnswerLine, Cell, Key, Reply, Row, RowName, Rows};
 use c5_script::ReadBlock;
 use std::alloc::Global;
+use std::process::Abort;
 use std::sync::atomic::{AtomicBool, AtomicU64, Ordering};
 use std::test::Fail;
 use std::thread::yield_now;
@@ -44,8 +45,15 @@ fn log(alloc: Global, bytes: &[u8]) -> Result<LogBuffer, Fail>
     requires { length bytes.now ≤ 1000 }
 {
     let mut decoder = Decoder::new(alloc);
-    decoder.feed(bytes).ok().ok_or("fed")?;
+    decoder.feed(bytes).ok().ok_or("no fault")?;
     Ok(decoder.finish().ok().ok_or("a log")?)
+}
+
+fn name(key: &[u8]) -> Result<RowName, Fail> {
+    Ok(RowName {
+        table: 0,
+        key: Key::new(key)?,
+    })
 }
 
 // A read of one row of the table.
@@ -53,11 +61,27 @@ fn read_of(alloc: Global, session: u32, key: &[u8]) -> Result<ReadBlock, Fail>
     requires least { 1 ≤ session }
     requires most { session ≤ 16 }
 {
-    let name = RowName {
-        table: 0,
-        key: Key::new(key)?,
-    };
+    let name = name(key)?;
     Ok(ReadBlock::new(alloc, session, ReadLine::OneRow { name })?)
+}
+
+// The reply to a read of one row is its number, or that it is absent.
+fn answers(rt: &impl Abort, reply: &Reply, key: &[u8], n: Option<i64>) -> Result<(), Fail> {
+    let name = name(key)?;
+    let want = match n {
+        Some(n) => AnswerLine::Found {
+            name,
+            row: Row::one(Cell::Int(n)),
+        },
+        None => AnswerLine::Absent { name },
+    };
+    assert_eq!(rt; reply.answer.as_slice(), [want].as_slice());
+    Ok(())
+}
+
+// A number that is there from this place on.
+fn since(first: u32, n: i64, place: u32) -> Option<i64> {
+    if place >= first { Some(n) } else { None }
 }
 
 // The greatest turn that each role has reached.
@@ -169,7 +193,8 @@ fn each_part_runs_beside_the_others(rt: HostRuntime) -> Result<(), Fail> {
     let replies = replayed.replies.as_slice();
     assert!(rt; replies.len() == 2);
     assert_eq!(rt; replies[0].place, 1);
-    Ok(())
+    answers(&rt, &replies[0], b"a", Some(1))?;
+    answers(&rt, &replies[1], b"a", Some(1))
 }
 
 #[test]
@@ -211,6 +236,9 @@ fn replies_are_by_ascending_session(rt: HostRuntime) -> Result<(), Fail> {
     assert_eq!(rt; replies[1].session, 2);
     assert_eq!(rt; replies[2].session, 2);
     assert!(rt; replies[1].place <= replies[2].place);
+    answers(&rt, &replies[0], b"a", since(1, 1, replies[0].place))?;
+    answers(&rt, &replies[1], b"b", since(2, 2, replies[1].place))?;
+    answers(&rt, &replies[2], b"c", None)?;
     assert_eq!(rt; replayed.pass.place(), 2);
     let rows = replayed.rows.list(alloc)?;
     assert!(rt; rows.len() == 2);
@@ -251,6 +279,9 @@ fn a_write_waits_for_its_predecessor(rt: HostRuntime) -> Result<(), Fail> {
     assert_eq!(rt; replies[0].place, 0);
     assert_eq!(rt; replies[1].place, 2);
     assert_eq!(rt; replies[2].place, 3);
+    answers(&rt, &replies[0], b"a", None)?;
+    answers(&rt, &replies[1], b"a", Some(2))?;
+    answers(&rt, &replies[2], b"a", Some(3))?;
     assert_eq!(rt; report.put_off, 1);
     assert_eq!(rt; report.rows.len(), 1);
     Ok(())
@@ -277,6 +308,8 @@ fn rounds_and_left_reads_follow_the_words(rt: HostRuntime) -> Result<(), Fail> {
     assert!(rt; replies.len() == 2);
     assert_eq!(rt; replies[0].place, 0);
     assert_eq!(rt; replies[1].place, 1);
+    answers(&rt, &replies[0], b"a", None)?;
+    answers(&rt, &replies[1], b"b", Some(2))?;
     assert_eq!(rt; report.put_off, 0);
     assert_eq!(rt; report.rows.len(), 2);
     Ok(())

@@ -19,7 +19,7 @@ then_assoc Less b c = refl
 then_assoc Equal b c = refl
 then_assoc Greater b c = refl
 
--- one byte more behind two numbers
+-- one byte more after two numbers
 digit : (x y u v : ℕ) → u < 256 → v < 256
     → ordering_then (nat_cmp x y) (nat_cmp u v) ≡ nat_cmp (x * 256 + u) (y * 256 + v)
 digit x y u v p q = by (nat_cmp x y) (nat_cmp u v) (ranks x y) (ranks u v)

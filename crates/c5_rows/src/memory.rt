@@ -1,4 +1,4 @@
-//! Want of memory.
+//! Memory that was refused.
 
 use std::alloc::{AllocError, AllocFailed};
 

@@ -145,7 +145,7 @@ fn set(writes: &mut Writes, bytes: &[u8], change: Change) -> Result<(), Fail> {
 }
 
 #[test]
-fn writes_stand_in_order_one_a_row(rt: HostRuntime) -> Result<(), Fail> {
+fn writes_are_in_order_one_a_row(rt: HostRuntime) -> Result<(), Fail> {
     let mut writes = Writes::with_capacity(rt.alloc(), 2)?;
     for bytes in [b"c", b"a", b"d", b"b", b"c"] {
         set(&mut writes, bytes, Change::Gone)?;

@@ -1,4 +1,4 @@
--- Words that are tested one behind the other, as a loop does.
+-- Words that are tested one after the other, as a loop does.
 use Rattle.std.proofs.Common.{◌≡◌, ◌∙◌, ℕ, suc, ◌+◌, ◌<◌, ◌≤◌, List, [], ◌∷◌, ◌++◌, length, get_or}
 use Rattle.std.proofs.Common.{drop, map, Some, None, Bool, true, false, cond, Result, Ok, Err, ◌≢◌}
 use Rattle.std.proofs.Common.{refl, sym, ap, append_assoc, arith, drop-cons}

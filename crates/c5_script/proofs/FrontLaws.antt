@@ -18,7 +18,7 @@ use Rattle.c5_script.specs.declared.parsing.ParseFault.{ParseFault}
 use Rattle.c5_script.specs.declared.parsing.ParseFault.TheVariants as faults
 use Rattle.c5_script.specs.Parsing.{ParseFails}
 
--- ---- the bytes behind lines
+-- ---- the bytes after lines
 
 behind-one_more : (count : ℕ) (bytes : List ℕ)
     → after_lines 1 (after_lines count bytes) ≡ after_lines (suc count) bytes

@@ -10,7 +10,7 @@ use Rattle.c5_definitions.specs.Lines.{lines_of, after_lines}
 abbrev pub is_end : ℕ → Bool
 is_end byte = eqb byte 10
 
--- where a line end is, the first line goes up to it
+-- if there is a line end, the first line goes up to it
 lines-before_end : (bytes : List ℕ) → position_or_len is_end bytes < length bytes
     → lines_of bytes ≡ take (position_or_len is_end bytes) bytes
     ∷ lines_of (drop (position_or_len is_end bytes + 1) bytes)
@@ -38,7 +38,7 @@ unfolding after_lines
 behind-no_end [] h = refl
 behind-no_end (byte ∷ bytes) h = grind (arith, common_steps, behind-no_end bytes)
 
--- ---- the first line end is at the place that a search for it gives
+-- ---- the first place of a line end is the one that a search for it gives
 
 not_true : (b : Bool) → ¬ (b ≡ true) → b ≡ false
 not_true true never = absurd (never refl)

@@ -7,7 +7,7 @@ use Rattle.c5_definitions.specs.Statements.{put_statement, put_words, new_table,
 use Rattle.c5_script.specs.declared.word.Word.{Word}
 use Rattle.c5_script.specs.Words.{held_word, held_words}
 
--- what a pattern binds behind n words
+-- what a pattern binds after n words
 whole : {A : Type 0} (n : ℕ) (xs : List A) → take (length xs - n) (drop n xs) ≡ drop n xs
 whole n xs = let same = length-drop n xs in take_all (length xs - n) (drop n xs) (omega arith)
 

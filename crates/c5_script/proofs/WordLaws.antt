@@ -166,7 +166,7 @@ pub text-None : (bytes : List ℕ) → None ≡ position is_quote bytes
 text-None bytes found = text-run (length bytes) [] bytes (pos-None is_quote bytes found) ∙ rw
     (drop-length bytes) (text-open (take (length bytes) bytes))
 
--- behind a text the next word may begin, or nothing
+-- after a text the next word may begin, or nothing
 pub behind_text : (bytes : List ℕ) → is_word_end bytes ≡ true
     → words_at after_quoted bytes ≡ words_at between bytes
 unfolding words_at

@@ -187,8 +187,8 @@ fn what_is_missing_at_the_end(rt: HostRuntime) {
         (b"table acct int\ntxn\n", 3),
         (b"table acct int\nread 1\nrow acct a\n", 4),
     ] {
-        let told = fault_in(rt.alloc(), bytes);
-        assert_eq!(rt; told, Some((line, ScriptKind::Unclosed)), "{bytes:?}");
+        let fault = fault_in(rt.alloc(), bytes);
+        assert_eq!(rt; fault, Some((line, ScriptKind::Unclosed)), "{bytes:?}");
     }
 }
 
@@ -271,11 +271,11 @@ fn faults_before_a_log(rt: HostRuntime) -> Result<(), Fail> {
         ([b"log\n", TABLE, LOG], 1, Word),
     ] {
         let bytes = joined(rt.alloc(), &parts)?;
-        let told = match front_in(rt.alloc(), &bytes) {
+        let fault = match front_in(rt.alloc(), &bytes) {
             Err(ParseFault::Bad(fault)) => Some((fault.line, fault.kind)),
             _ => None,
         };
-        assert_eq!(rt; told, Some((line, kind)), "{parts:?}");
+        assert_eq!(rt; fault, Some((line, kind)), "{parts:?}");
     }
     Ok(())
 }

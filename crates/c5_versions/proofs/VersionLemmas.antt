@@ -41,7 +41,7 @@ not_above (version ∷ versions) zero (suc j) d e up le within =
 not_above (version ∷ versions) (suc i) (suc j) d e up le within =
     not_above versions i j d e up.1 (omega arith) (omega arith)
 
--- where the first stamp is 0, some stamp is below one that is not
+-- if the first stamp is 0, some stamp is below one that is not
 pub some_below : (stamp : ℕ) (versions : List Version) (n : ℕ) → BeginsAtZero versions → 1 ≤ stamp
     → AllWithin (λ v. stamp ≤ v.wrote) versions n (length versions) → 1 ≤ n
 some_below stamp [] n begins positive high = absurd begins

@@ -29,7 +29,7 @@ fn a_stamp_finds_the_version_below_it(rt: HostRuntime) -> Result<(), Fail> {
 }
 
 #[test]
-fn versions_stand_in_order(rt: HostRuntime) -> Result<(), Fail> {
+fn versions_are_in_order(rt: HostRuntime) -> Result<(), Fail> {
     let mut versions = Versions::new(rt.alloc(), Change::Gone)?;
     versions.reserve()?;
     versions.insert(7, put(7)?);

@@ -10,7 +10,7 @@ use Rattle.clap.specs.Walk.{Text, first_of, one_of, rows_of}
 use Rattle.clap.proofs.WalkLemmas.{first_value-rows, one_text-rows}
 use Rattle.clap.specs.declared.parser.matches.Found.{Found}
 use Rattle.c5_words.specs.Program.{default_count, max_count}
-use Rattle.c5_words.specs.Meaning.{option_number, request_named, run_of}
+use Rattle.c5_words.specs.Meaning.{option_number, request_in, run_of}
 
 -- `get_one` of an option whose value is in a range gives its number, or nothing if it isn't given
 pub number_read : (E : Type 0) (G : List ℕ → Result ℕ E → Type 0) (f : Found) (name : Text)
@@ -59,7 +59,7 @@ pub run_is : (f : Found) (word : Text) (a b n : ℕ) → Some word ≡ first_val
     → b ≡ option_number (codes "workers") 1 (rows_of f)
     → n ≡ option_number (codes "count") default_count (rows_of f)
     → run_of (rows_of f)
-    ≡ request_named (record { threads = a; workers = b; count = n }) word
+    ≡ request_in (record { threads = a; workers = b; count = n }) word
 run_is f word a b n first threads workers count =
     let there : first_of (codes "command") (rows_of f) ≡ Some word =
     sym (first ∙ first_value-rows f (codes "command")) in

@@ -11,7 +11,7 @@ use Rattle.clap.specs.Faults.{fault_of}
 use Rattle.clap.specs.declared.error.kind.ErrorKind.{ErrorKind}
 use Rattle.clap.specs.declared.error.kind.ErrorKind.TheVariants as kind
 use Rattle.c5_rows.specs.Sizes.{max_threads, max_workers}
-use Rattle.c5_words.specs.Names.{command_named}
+use Rattle.c5_words.specs.Names.{command_in}
 use Rattle.c5_words.specs.Program.{program, default_count, max_count}
 use Rattle.c5_words.specs.declared.options.Options.{Options}
 use Rattle.c5_words.specs.declared.request.Request.{Request}
@@ -33,14 +33,14 @@ options_of rows = record {
 }
 
 -- the run with these options that a word asks for: none if it names no command
-abbrev pub request_named : Options → Text → Option Request
-request_named options word = if bytes_eq word (codes "gen") then Some (Generate options)
-    else option_map (λ command. Run command options) (command_named word)
+abbrev pub request_in : Options → Text → Option Request
+request_in options word = if bytes_eq word (codes "gen") then Some (Generate options)
+    else option_map (λ command. Run command options) (command_in word)
 
 -- the run that accepted words ask for: none if the word of their command names none
 abbrev pub run_of : List Row → Option Request
 run_of rows =
-    option_and_then (request_named (options_of rows)) (first_of (codes "command") rows)
+    option_and_then (request_in (options_of rows)) (first_of (codes "command") rows)
 
 -- what words ask for that `clap` answers with an error of this kind
 abbrev pub request_for : ErrorKind → Option Request

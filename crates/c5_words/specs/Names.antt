@@ -6,8 +6,8 @@ use Rattle.c5_words.specs.declared.command.Command.TheVariants.{Apply, Primary, 
 use Rattle.c5_words.specs.declared.command.Command.TheVariants.{Turns}
 
 -- the command over an input that has this name
-abbrev pub command_named : List ℕ → Option Command
-command_named word =
+abbrev pub command_in : List ℕ → Option Command
+command_in word =
     if bytes_eq word (codes "apply") then Some Apply
     else (if bytes_eq word (codes "primary") then Some Primary
     else (if bytes_eq word (codes "backup") then Some Backup

@@ -1,7 +1,7 @@
 //! The commands, and their names.
 
 ghost use Rattle.std.specs.Prelude.{◌≡◌};
-ghost use Rattle.c5_words.specs.Names.{command_named};
+ghost use Rattle.c5_words.specs.Names.{command_in};
 
 /// What the program is asked to do with an input.
 #[derive(Clone, Copy)]
@@ -19,8 +19,8 @@ pub enum Command {
 }
 
 /// The command of this name; `None` if the word names none.
-pub fn command_named(word: &str) -> Option<Command>
-    ensures { result ≡ command_named word.now }
+pub fn command_in(word: &str) -> Option<Command>
+    ensures { result ≡ command_in word.now }
 {
     if word == "apply" {
         return Some(Command::Apply);

@@ -6,9 +6,9 @@ ghost use Rattle.clap.specs.Values.{IsUnsignedIn};
 ghost use Rattle.c5_rows.specs.Sizes.{max_threads, max_workers};
 ghost use Rattle.c5_words.specs.Program.{max_count};
 ghost use Rattle.c5_words.specs.Meaning.{Answers, AreOptions, IsWithin, meaning_of, option_number};
-ghost use Rattle.c5_words.specs.Meaning.{request_for, request_named, run_of};
+ghost use Rattle.c5_words.specs.Meaning.{request_for, request_in, run_of};
 
-use crate::command::command_named;
+use crate::command::command_in;
 use crate::options::{DEFAULT_COUNT, Options};
 use crate::program::program;
 use crate::request::{Request, WordsFault};
@@ -25,15 +25,15 @@ fn number_given(matches: &ArgMatches<'_>, name: &str, default: u32) -> u32
 }
 
 // The run that a word asks for; `None` if it names no command.
-fn request_named(options: Options, word: &str) -> Option<Request>
+fn request_in(options: Options, word: &str) -> Option<Request>
     requires { AreOptions options }
-    ensures meaning { result ≡ request_named options word.now }
+    ensures meaning { result ≡ request_in options word.now }
     ensures within { IfSome result IsWithin }
 {
     if word == "gen" {
         return Some(Request::Generate { options });
     }
-    match command_named(word) {
+    match command_in(word) {
         Some(command) => Some(Request::Run { command, options }),
         None => None,
     }
@@ -56,7 +56,7 @@ fn run_of(matches: &ArgMatches<'_>) -> Result<Request, WordsFault>
         count: number_given(matches, "count", DEFAULT_COUNT),
     };
     match matches.get_str("command") {
-        Some(word) => match request_named(options, word) {
+        Some(word) => match request_in(options, word) {
             Some(request) => Ok(request),
             None => Err(WordsFault::Refused),
         },
@@ -79,7 +79,7 @@ fn request_for(kind: ErrorKind) -> Result<Request, WordsFault>
 }
 
 /// The request that these words are, without the program's name. `NoMemory` may come for any words;
-/// any other answer is exactly what the words mean, and `Refused` says that they are no request.
+/// any other answer is exactly what the words mean, and `Refused` says that they aren't one.
 pub fn request_of(alloc: Global, words: &[String]) -> Result<Request, WordsFault>
     ensures meaning { Answers (meaning_of (map string_bytes words.now)) result }
     ensures within { IfOk result IsWithin }

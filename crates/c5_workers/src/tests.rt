@@ -37,11 +37,11 @@ pub fn log(alloc: Global, bytes: &[u8]) -> Result<LogBuffer, Fail>
     requires { length bytes.now ≤ 10000 }
 {
     let mut decoder = Decoder::new(alloc);
-    decoder.feed(bytes).ok().ok_or("fed")?;
+    decoder.feed(bytes).ok().ok_or("no fault")?;
     Ok(decoder.finish().ok().ok_or("a log")?)
 }
 
-pub fn row_named(key: &[u8]) -> Result<RowName, Fail> {
+pub fn row_name(key: &[u8]) -> Result<RowName, Fail> {
     Ok(RowName {
         table: 0,
         key: Key::new(key)?,
@@ -151,7 +151,7 @@ fn reads_first_row(rt: &impl Abort, board: &Board<'_>, pass: &mut BoardPass) -> 
     requires board { pass.old.board ≡ board.now }
     requires place { 1 ≤ pass.old.place }
 {
-    let name = row_named(b"a")?;
+    let name = row_name(b"a")?;
     let row = find(board, pass, &name).ok_or("a row")?;
     assert_eq!(rt; row, 1);
     let At::Put(put) = value_at(board, pass, row, 1) else {
@@ -249,7 +249,7 @@ fn a_row_is_read_at_its_place(rt: HostRuntime) -> Result<(), Fail> {
     let plan = plan(&log).ok().ok_or("a plan")?;
     let (board, pass) = scheduled(rt.alloc(), &plan)?;
     let mut pass = finished(rt.alloc(), &board, pass)?;
-    let name = row_named(b"a")?;
+    let name = row_name(b"a")?;
     let advanced = advance(&board, &mut pass);
     assert!(rt; advanced.place == 3 && advanced.least == 4);
     assert!(rt; cell_at(&board, &mut pass, &name, 0).is_none());
@@ -261,12 +261,12 @@ fn a_row_is_read_at_its_place(rt: HostRuntime) -> Result<(), Fail> {
 fn a_row_is_found_once_it_is_scheduled(rt: HostRuntime) -> Result<(), Fail> {
     let log = log(rt.alloc(), TWO_ROWS)?;
     let plan = plan(&log).ok().ok_or("a plan")?;
-    let name = row_named(b"b")?;
+    let name = row_name(b"b")?;
     let (board, mut pass) = Board::new(rt.alloc(), &plan, 1)?;
     assert!(rt; find(&board, &mut pass, &name).is_none());
     let (board, mut pass) = scheduled(rt.alloc(), &plan)?;
     assert!(rt; find(&board, &mut pass, &name) == Some(2));
-    let other = row_named(b"c")?;
+    let other = row_name(b"c")?;
     assert!(rt; find(&board, &mut pass, &other).is_none());
     Ok(())
 }

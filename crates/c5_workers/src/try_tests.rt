@@ -3,7 +3,7 @@ ghost use Rattle.c5_rows.specs.Numbers.{is_among};
 ghost use Rattle.c5_definitions.specs.WriteNumbers.{owner_of};
 
 use super::*;
-use crate::tests::{ONE_ROW, cell_at, finished, log, row_named, scheduled};
+use crate::tests::{ONE_ROW, cell_at, finished, log, row_name, scheduled};
 use c5_board::{Board, BoardPass};
 use c5_chains::{Install, try_install};
 use c5_plan::plan;
@@ -131,7 +131,7 @@ fn all_that_is_left_is_installed(rt: HostRuntime) -> Result<(), Fail> {
     let mut pass = finished(rt.alloc(), &board, pass)?;
     let advanced = advance(&board, &mut pass);
     assert!(rt; advanced.place == 130 && advanced.least == 131);
-    let name = row_named(b"a")?;
+    let name = row_name(b"a")?;
     assert!(rt; cell_at(&board, &mut pass, &name, 130) == Some(Cell::Int(128)));
     Ok(())
 }

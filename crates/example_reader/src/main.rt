@@ -160,7 +160,7 @@ fn read_to_end<W: Wait>(
     unreachable!()
 }
 
-// The log of these bytes; `None` if they are no log, or memory runs out.
+// The log of these bytes; `None` if they aren't a log, or if memory runs out.
 fn decode(alloc: Global, bytes: &[u8]) -> Option<LogBuffer>
     requires { length bytes.now ≤ max_log_bytes }
 {

@@ -224,7 +224,7 @@ module _ {E : Type 0} (caller : E → ℕ) where
       (ap (λ l. entries_of caller numbers seen ++ l) (others_none numbers s.0 s.2) ∙ append-nil
       (entries_of caller numbers seen)))
 
-  -- where each entry is of these numbers, all were seen
+  -- if each entry is of these numbers, all were seen
   pub seen_all_own : (log : List E) (numbers : List ℕ) (seen : List E) → AreOf caller numbers log
       → IsSeenOf caller log numbers seen → log ≡ entries_of caller numbers seen
   seen_all_own log numbers seen all s = sym (of_all numbers log all) ∙ seen_own log numbers seen s

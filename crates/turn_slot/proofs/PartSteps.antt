@@ -418,11 +418,11 @@ pub joined_own : {V B E : Type 0} (caller : E → ℕ) (v w : Known B E)
     ≡ entries_of caller p.numbers p.seen) m.0.parts
     → (entries_of caller v.numbers m'.0.seen ≡ entries_of caller v.numbers v.seen)
     × (entries_of caller w.numbers m'.0.seen ≡ entries_of caller w.numbers w.seen)
-joined_own {V} {B} {E} caller v w m m' c is after told =
+joined_own {V} {B} {E} caller v w m m' c is after own =
     let Has : List E → Part E → Type 0 = λ xs p. entries_of caller p.numbers xs
     ≡ entries_of caller p.numbers p.seen in
     let all : All (Has (longer v.seen w.seen)) (part_of v ∷ part_of w ∷ []) =
-    subst (λ (z : Me (Option V) (Known B E)). All (Has z.0.seen) z.0.parts) is told in
+    subst (λ (z : Me (Option V) (Known B E)). All (Has z.0.seen) z.0.parts) is own in
     let seen : m'.0.seen ≡ longer v.seen w.seen =
     ap (λ (z : Me (Option V) (Known B E)). z.0.seen) after ∙ ap
     (λ (z : Me (Option V) (Known B E)). z.0.seen) is in (

@@ -9,8 +9,8 @@ use crate::kept::Kept;
 /// last in the slot.
 ///
 /// - The count word is the length of the log, or `u64::MAX` if that is longer.
-/// - Where the holder word is 0, the value is in the slot, with the log for its history.
-/// - Where it is n, exactly one pass has the turn, and its number is n. The value is in the slot,
+/// - If the holder word is 0, the value is in the slot, with the log for its history.
+/// - If it is n, exactly one pass has the turn, and its number is n. The value is in the slot,
 ///   but while it is out with the turn.
 /// - Each number from 1 on is united by exactly one pass.
 /// - What a pass has seen is a prefix of the log, and the log's entries of its numbers are those

@@ -37,8 +37,8 @@ pub returns-then-w-eq0-clause-looks : goal.returns-then-w-eq0-clause-looks
 returns-then-w-eq0-clause-looks c =
     path-ends _ _ _ _ _ _ _ _ c.loop.invariant.path c.load_bucket-w.ensures.pass c.if-w-eq0.true
 
-pub is_named-requires : goal.is_named-requires
-is_named-requires c =
+pub has_name-requires : goal.has_name-requires
+has_name-requires c =
     let found = first-found c.args.pass.now _ _ _ _ c.requires
     (c.index_law.ensures.rows _) c.buckets-buckets.ensures.value c.loop.invariant.within
     c.load_bucket-w.ensures.first c.if-w-eq0.false in
@@ -46,8 +46,8 @@ is_named-requires c =
     (same-names c.args.pass.now _ c.log-log.result.now c.requires
     (c.log-log.ensures.value ∙ c.plan.ensures.log)) found.1.write
 
-pub returns-then-is_named-clause-end : goal.returns-then-is_named-clause-end
-returns-then-is_named-clause-end c =
+pub returns-then-has_name-clause-end : goal.returns-then-has_name-clause-end
+returns-then-has_name-clause-end c =
     let found = first-found c.args.pass.now _ _ _ _ c.requires
     (c.index_law.ensures.rows _) c.buckets-buckets.ensures.value c.loop.invariant.within
     c.load_bucket-w.ensures.first c.if-w-eq0.false in
@@ -57,10 +57,10 @@ returns-then-is_named-clause-end c =
     row-found c.args.pass.now c.loop.pass _ _ _ _ c.requires (ap (λ (p : Pass). p.scheduler) pass)
     (ap (λ (p : Pass). p.indexed) pass) found.1
     (subst (λ (ns : _). name_at ns c.load_bucket-w.result ≡ Some c.args.name.now) same
-    (c.is_named.ensures.0 c.if-is_named.true)) c.load_bucket-w.ensures.own
+    (c.has_name.ensures.0 c.if-has_name.true)) c.load_bucket-w.ensures.own
 
-pub returns-then-is_named-clause-looks : goal.returns-then-is_named-clause-looks
-returns-then-is_named-clause-looks c =
+pub returns-then-has_name-clause-looks : goal.returns-then-has_name-clause-looks
+returns-then-has_name-clause-looks c =
     path-ends _ _ _ _ _ _ _ _ c.loop.invariant.path c.load_bucket-w.ensures.pass refl
 
 pub next-bucket-requires : goal.next-bucket-requires
@@ -86,9 +86,9 @@ loop-preserved c =
           (sym next)
           (on_path-next _ _ _ _ _ _ _ c.loop.invariant.path c.load_bucket-w.ensures.pass found.0
           found.1 (λ is. true≢false
-          (sym (c.is_named.ensures.1
+          (sym (c.has_name.ensures.1
           (subst (λ (ns : _). name_at ns c.load_bucket-w.result ≡ Some c.args.name.now)
-          (sym same) is)) ∙ c.if-is_named.false)));
+          (sym same) is)) ∙ c.if-has_name.false)));
     }
 
 pub unreachable-requires : goal.unreachable-requires

@@ -2,7 +2,7 @@ use Rattle.std.proofs.Common.{◌≡◌, ◌≤◌, ◌-◌, length}
 use Rattle.std.specs.Io.KnownBytes.{Consumes}
 use Rattle.c5_driver.proofs.decoding.feed_all.Given as goal
 
--- all that the source lost has been fed
+-- all that the source lost has been taken
 abbrev pub invariant-pieces : goal.invariant-pieces
 invariant-pieces g l = record {
   within : length l.decoder ≤ l.fn.limit;

@@ -10,9 +10,9 @@ returns-in-BadScript-clause-line g c =
     let sink = g.K.Sink in
     rw c.in-BadScript.is
     (subst (λ (ending : List ℕ). PrintsLine
-    (sink_use sink.held sink.faults sink.flushed c.args.sink.now c.tell_place.new.sink)
+    (sink_use sink.held sink.faults sink.flushed c.args.sink.now c.report_place.new.sink)
     (place_line (codes "bad script line ") c.in-BadScript.fault.line ending))
-    c.ending_of_script.ensures c.tell_place.ensures)
+    c.ending_of_script.ensures c.report_place.ensures)
 
 pub returns-in-BadLog-clause-line : goal.returns-in-BadLog-clause-line
 returns-in-BadLog-clause-line g c =
@@ -20,6 +20,6 @@ returns-in-BadLog-clause-line g c =
     rw c.in-BadLog.is
     (subst (λ (ending : List ℕ). PrintsLine
     (sink_use sink.held sink.faults sink.flushed c.args.sink.now
-    c.tell_place-in-BadLog.new.sink)
+    c.report_place-in-BadLog.new.sink)
     (place_line (codes "bad log at ") c.in-BadLog.fault.offset ending))
-    c.ending_of_log.ensures c.tell_place-in-BadLog.ensures)
+    c.ending_of_log.ensures c.report_place-in-BadLog.ensures)

@@ -10,8 +10,8 @@ use Rattle.c5_frames.proofs.cells.cells_from.Goals as goal
 pub loop-cell_type-init : goal.loop-cell_type-init
 loop-cell_type-init c = row-cells _ _ _ c.requires.row
 
-pub behind_cell-rest-requires : goal.behind_cell-rest-requires
-behind_cell-rest-requires c =
+pub after_cell-rest-requires : goal.after_cell-rest-requires
+after_cell-rest-requires c =
     let columns = c.args.columns.now in
     let i = c.loop-cell_type.cell_type-index in
     let near : i < c.args.col = omega (arith, length-take c.args.col columns) in
@@ -29,7 +29,7 @@ loop-cell_type-preserved c =
     let i = c.loop-cell_type.cell_type-index in
     let near : i < c.args.col = omega (arith, length-take c.args.col columns) in
     let within : i < length columns = omega (arith, length-take c.args.col columns) in
-    next-behind columns i _ c.loop-cell_type.rest.now c.behind_cell-rest.result.now
+    next-behind columns i _ c.loop-cell_type.rest.now c.after_cell-rest.result.now
     (cells_held columns c.args.bytes.now) within c.loop-cell_type.invariant
     (ap (λ (t : CellType). unread (cell_at t c.loop-cell_type.rest.now))
-    (sym (get_or-take c.args.col columns i _ near)) ∙ c.behind_cell-rest.ensures)
+    (sym (get_or-take c.args.col columns i _ near)) ∙ c.after_cell-rest.ensures)

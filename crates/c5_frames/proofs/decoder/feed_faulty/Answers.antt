@@ -1,6 +1,6 @@
 use Rattle.std.proofs.Common.{◌∙◌, ap}
 use Rattle.c5_definitions.specs.Items.{after_bytes, at_start}
-use Rattle.c5_frames.proofs.Fed.{fault-stays}
+use Rattle.c5_frames.proofs.Pieces.{fault-stays}
 use Rattle.c5_frames.proofs.decoder.feed_faulty.Goals as goal
 
 pub returns-in-Ok-clause-feeds : goal.returns-in-Ok-clause-feeds

@@ -1,7 +1,7 @@
 use Rattle.std.proofs.Common.{◌∙◌, ap, sym, subst, List, ℕ}
 use Rattle.c5_definitions.specs.Items.{after_bytes, at_start}
 use Rattle.c5_frames.specs.DecoderStates.{IsReady, decoded_state}
-use Rattle.c5_frames.proofs.Fed.{ready-more, reads-part}
+use Rattle.c5_frames.proofs.Pieces.{ready-more, reads-part}
 use Rattle.c5_frames.proofs.decoder.feed_whole.Goals as goal
 
 pub take_items-requires : goal.take_items-requires

@@ -4,7 +4,7 @@ use Rattle.c5_definitions.specs.Items.{log_of}
 use Rattle.c5_definitions.specs.Lawful.{Spells}
 use Rattle.c5_frames.specs.Log.{Log}
 use Rattle.c5_frames.specs.Holding.{txns_in}
-use Rattle.c5_frames.proofs.Fed.{cut-log, never-none, holds-log}
+use Rattle.c5_frames.proofs.Pieces.{cut-log, never-none, holds-log}
 use Rattle.c5_frames.proofs.decoder.finish_log.Goals as goal
 
 pub returns-then-not-is_end-clause-read : goal.returns-then-not-is_end-clause-read

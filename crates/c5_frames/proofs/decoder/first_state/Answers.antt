@@ -1,4 +1,4 @@
-use Rattle.c5_frames.proofs.Fed.{Decodes-start}
+use Rattle.c5_frames.proofs.Pieces.{Decodes-start}
 use Rattle.c5_frames.proofs.decoder.first_state.Goals as goal
 
 pub returns-clause-decodes : goal.returns-clause-decodes

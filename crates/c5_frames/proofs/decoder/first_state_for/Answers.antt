@@ -3,7 +3,7 @@ use native.Mathlib.Numerals.{unary_clauses}
 use Rattle.c5_frames.specs.DecoderStates.{tables_of}
 use Rattle.c5_frames.specs.Stages.{item_of}
 use Rattle.c5_frames.specs.Index.{Found, HasRoom}
-use Rattle.c5_frames.proofs.Fed.{ready-more}
+use Rattle.c5_frames.proofs.Pieces.{ready-more}
 use Rattle.c5_frames.proofs.decoder.first_state_for.Goals as goal
 
 pub returns : goal.returns

@@ -27,6 +27,6 @@ returns-in-Ok c = λ size.
           ++ record { name = c.args.name; columns = c.in-Ok.columns } ∷ [],
       next,
     ))
-    (sym c.stage_behind_table.ensures)
-    ∙ ap (λ (tables : List TableDef). Ok (tables, item_of c.stage_behind_table.result))
+    (sym c.stage_after_table.ensures)
+    ∙ ap (λ (tables : List TableDef). Ok (tables, item_of c.stage_after_table.result))
     (sym c.add_table.ensures)

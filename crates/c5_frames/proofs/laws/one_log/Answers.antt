@@ -2,7 +2,7 @@ use Rattle.c5_frames.proofs.LawOneLog.{log_of-octets, spells-log_of, spells-one,
 use Rattle.c5_frames.proofs.LawOneLog.{log_fault_of-none, log_fault_of-ok, fault-stays}
 use Rattle.c5_frames.proofs.LawOneLog.{log_fault_of-stays, front-cut, log-then-after}
 use Rattle.c5_frames.proofs.LawOneLog.{log_fault_of-within}
-use Rattle.c5_frames.proofs.Fed.{fault-stays as read-stays}
+use Rattle.c5_frames.proofs.Pieces.{fault-stays as read-stays}
 use Rattle.c5_frames.proofs.laws.one_log.Goals as goal
 
 pub returns-clause-no_fault : goal.returns-clause-no_fault

@@ -14,8 +14,8 @@ loop-filled-preserved g c =
           (with_items_is c.make_room.new.bytes c.read_tail.new.bytes (search (rules, places)))
           (consumes_filled _ _ _ c.loop-filled.bytes.items c.make_room.new.bytes.items
           c.read_tail.new.bytes c.loop-filled.filled c.in_ok-count.count
-          c.make_room.ensures.front
-          (read.front ∙ ap (take c.loop-filled.filled) c.as_mut_slice.ensures.value)
+          c.make_room.ensures.prefix
+          (read.prefix ∙ ap (take c.loop-filled.filled) c.as_mut_slice.ensures.value)
           before.taken read.ok);
       faults = search rules;
     }

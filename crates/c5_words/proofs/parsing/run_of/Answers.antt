@@ -6,8 +6,8 @@ use Rattle.c5_words.specs.Program.{default_count, max_count}
 use Rattle.c5_words.proofs.Reading.{number_within, run_is, no_run}
 use Rattle.c5_words.proofs.parsing.run_of.Goals as goal
 
-pub request_named-requires : goal.request_named-requires
-request_named-requires c =
+pub request_in-requires : goal.request_in-requires
+request_in-requires c =
     let threads = number_within (found_of c.args.matches.now)
     (codes "threads") max_threads 1 c.number_given.result (omega arith)
     (omega arith) c.requires.threads c.number_given.ensures in
@@ -26,19 +26,19 @@ request_named-requires c =
       few_count = count.1;
     }
 
-pub returns-in-Some-request_named-clause-meaning : goal.returns-in-Some-request_named-clause-meaning
-returns-in-Some-request_named-clause-meaning c =
+pub returns-in-Some-request_in-clause-meaning : goal.returns-in-Some-request_in-clause-meaning
+returns-in-Some-request_in-clause-meaning c =
     run_is (found_of c.args.matches.now) c.in-Some.word.now c.number_given.result
     c.number_given-2.result c.number_given-3.result c.in-Some.ensures c.number_given.ensures
     c.number_given-2.ensures c.number_given-3.ensures
-    ∙ sym c.in-Some-request_named.ensures.meaning
+    ∙ sym c.in-Some-request_in.ensures.meaning
 
-pub returns-in-None-request_named-clause-meaning : goal.returns-in-None-request_named-clause-meaning
-returns-in-None-request_named-clause-meaning c =
+pub returns-in-None-request_in-clause-meaning : goal.returns-in-None-request_in-clause-meaning
+returns-in-None-request_in-clause-meaning c =
     run_is (found_of c.args.matches.now) c.in-Some.word.now c.number_given.result
     c.number_given-2.result c.number_given-3.result c.in-Some.ensures c.number_given.ensures
     c.number_given-2.ensures c.number_given-3.ensures
-    ∙ sym c.in-None-request_named.ensures.meaning
+    ∙ sym c.in-None-request_in.ensures.meaning
 
 pub returns-in-None-clause-meaning : goal.returns-in-None-clause-meaning
 returns-in-None-clause-meaning c = no_run (found_of c.args.matches.now) c.in-None.ensures

@@ -1,7 +1,7 @@
 use Rattle.std.proofs.Common.{◌∙◌, ap, sym, subst, ℕ, List}
 use Rattle.c5_definitions.specs.Items.{log_of}
 use Rattle.c5_frames.specs.Feeding.{FinishesLog}
-use Rattle.c5_frames.proofs.Fed.{faulty-log, never-both, refused}
+use Rattle.c5_frames.proofs.Pieces.{faulty-log, never-both, refused}
 use Rattle.c5_frames.proofs.decoder.Decoder.finish.Goals as goal
 
 pub returns-in-Some-clause-read : goal.returns-in-Some-clause-read

@@ -236,7 +236,7 @@ holds-log bytes p schema h end is =
       small = h.small;
     }
 
--- ---- bytes with a fault are no log
+-- ---- bytes with a fault aren't a log
 
 abbrev read_as : LogParts → Result LogParts LogFault
 read_as log = Ok log

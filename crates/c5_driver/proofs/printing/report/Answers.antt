@@ -1,6 +1,6 @@
 use Rattle.std.proofs.Common.{◌∙◌, arith}
 use Rattle.c5_driver.proofs.Prefixes.{appends_kept, whole_is_prefix, flushed-unless}
-use Rattle.c5_driver.proofs.printing.tell.Goals as goal
+use Rattle.c5_driver.proofs.printing.report.Goals as goal
 
 pub returns-in-Ok : goal.returns-in-Ok
 returns-in-Ok g c =

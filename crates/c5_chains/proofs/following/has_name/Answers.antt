@@ -3,7 +3,7 @@ use borrow.Author.Tests.{eqb-true}
 use Rattle.std.proofs.lemmas.Slice.Eq.{bytes_eq-Decides}
 use Rattle.c5_rows.specs.declared.writes.RowName.{RowName}
 use Rattle.c5_chains.proofs.Naming.{name_at-write, same_parts, one_name}
-use Rattle.c5_chains.proofs.following.is_named.Goals as goal
+use Rattle.c5_chains.proofs.following.has_name.Goals as goal
 
 pub returns-then-table-name : goal.returns-then-table-name
 returns-then-table-name c =
