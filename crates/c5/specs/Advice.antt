@@ -9,7 +9,7 @@ advice_of statuses.BadWords = codes "try c5 --help"
 advice_of statuses.ReadFault = codes
     "reading standard input failed, so nothing was written; check the input and run it again"
 advice_of statuses.WriteFault = codes
-    "writing standard output failed, so the result isn't whole; run it again with an output that takes all of it"
+    "writing standard output failed, so the result isn't whole; run it again with another output"
 advice_of statuses.NoMemory = codes
     "out of memory, so nothing was written; run it again with more memory or a smaller input"
 advice_of status = []

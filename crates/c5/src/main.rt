@@ -29,7 +29,7 @@ fn advice(status: Status) -> &'static str
         Status::ReadFault => "reading standard input failed, so nothing was written; \
             check the input and run it again",
         Status::WriteFault => "writing standard output failed, so the result isn't whole; \
-            run it again with an output that takes all of it",
+            run it again with another output",
         Status::NoMemory => "out of memory, so nothing was written; \
             run it again with more memory or a smaller input",
         Status::Ok | Status::BadScript | Status::BadLog | Status::TooLong | Status::Limit => "",
