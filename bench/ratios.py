@@ -141,7 +141,7 @@ def clone(folder):
               (["backup"], folder.backup(name)))
 
 
-# Several threads take turns at one order book, so more of them are no faster.
+# Several threads take turns at one order book, so more of them aren't faster.
 def threads(folder):
     for name, what in {**SCRIPTS, "own_rows": "a row of its own each",
                        "small": "small transactions"}.items():

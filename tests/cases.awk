@@ -16,7 +16,7 @@
 #   @times N .. @done     text: the lines between, N times
 #   HEX ..                hex: bytes; HEX*N is one byte N times
 #   @hex HEX ..           bytes in hexadecimal, in an input that is text
-#   => STATUS             what follows is the output; empty lines before the next case are no part of it
+#   => STATUS             what follows is the output; empty lines before the next case aren't part of it
 #   => STATUS size N      the output has N bytes
 #
 # A byte is printed as an octal escape of printf, and a line that is repeated as `part N LINES

@@ -353,19 +353,19 @@ def contended(rand):
     return "\n".join(lines).encode()
 
 
-# The front of a script, a `log` line and a log, mostly one with the tables of the script.
+# A script, a `log` line and a log, mostly one with the tables of the script.
 def backup_input(rand):
     lines = [words for words in script_lines(rand) if words[0] != "turns"]
-    front = "\n".join(" ".join(words) for words in lines) + "\n" + rand.choice(("log\n", "log\n",
+    text = "\n".join(" ".join(words) for words in lines) + "\n" + rand.choice(("log\n", "log\n",
         "log\n", " log \n", "log", ""))
     if rand.random() < 0.2:
-        return front.encode() + log_input(rand)
+        return text.encode() + log_input(rand)
     if rand.random() < 0.05:
         return "\n".join(" ".join(words) for words in lines).encode()
     try:
-        script, _ = reference.read_script(front.encode(), front=True)
+        script, _ = reference.read_script(text.encode(), with_log=True)
     except reference.Refused:
-        return front.encode() + bytes(random_log(rand))
+        return text.encode() + bytes(random_log(rand))
     log = bytearray(reference.spelled(meaning.names_and_types(script),
                                       reference.run_serial(script)))
     what = rand.random()
@@ -379,15 +379,15 @@ def backup_input(rand):
         log = header + b"".join(len(payload).to_bytes(4, "big") + payload for payload in payloads)
     elif what < 0.35:
         log += b"\0"
-    return front.encode() + bytes(log)
+    return text.encode() + bytes(log)
 
 
-# A front without faults, and a log with any.
+# A script without faults, and a log with any.
 def backup_of_log(rand):
     return b"table acct int\nlog\n" + log_input(rand)
 
 
-# A front of which one line is of any form and spoilt, and a log.
+# A script with one line of any form that is spoilt, and a log.
 def backup_of_line(rand):
     return rand.choice([line_input] * 6 + [script_input] * 3
                        + [limit_input])(rand) + b"\nlog\n" + bytes(random_log(rand))
@@ -456,11 +456,11 @@ class Comparison:
 
     def run(self, words, name, data, status, printed, **streams):
         how = {"input": data} if "stdin" not in streams else {}
-        ran = subprocess.run([PROGRAM, *words], stdout=streams.get("stdout", subprocess.PIPE),
+        ended = subprocess.run([PROGRAM, *words], stdout=streams.get("stdout", subprocess.PIPE),
                              stderr=subprocess.DEVNULL,
                              **how, **{key: value for key, value in streams.items()
                                        if key != "stdout"})
-        got = (ran.returncode, ran.stdout or b"")
+        got = (ended.returncode, ended.stdout or b"")
         self.count(got == (status, printed),
             f"{' '.join(words)} on {name[:2000]}: {got[0]} {got[1][:200]!r}, "
             f"not {status} {printed[:200]!r}")
@@ -471,16 +471,16 @@ class Comparison:
         for option in {"primary": ["--threads"], "backup": ["--workers"],
                        "clone": ["--threads", "--workers"]}[command]:
             words += [option, str(rand.choice((1, 2, 4, 16)))]
-        ran = subprocess.run([PROGRAM, *words], input=data, stdout=subprocess.PIPE,
+        ended = subprocess.run([PROGRAM, *words], input=data, stdout=subprocess.PIPE,
                              stderr=subprocess.DEVNULL)
-        why = meaning.wrong(command, data, ran.returncode, ran.stdout)
+        why = meaning.wrong(command, data, ended.returncode, ended.stdout)
         if why is None:
-            self.answers[command, answer_name(ran.returncode, ran.stdout)] += 1
-            self.mixed += (ran.returncode == 0 and command != "backup"
-                           and not meaning.is_script_order(command, ran.stdout))
+            self.answers[command, answer_name(ended.returncode, ended.stdout)] += 1
+            self.mixed += (ended.returncode == 0 and command != "backup"
+                           and not meaning.is_script_order(command, ended.stdout))
         self.count(why is None, f"{' '.join(words)} on {name or repr(data[:2000])}: {why}")
 
-    # Words that are no command, an input that can't be read, and an output that can't be written.
+    # Words that aren't a command, an input that can't be read, and an output that can't be written.
     def compare_streams(self):
         log, script = reference.spelled([(b"t", (1,))], []), b"table t int\n"
         for words in ([], ["frob"], ["apply", "primary"], ["Apply"], [""], ["apply "]):
@@ -500,7 +500,7 @@ class Comparison:
             self.run([command], "a full device", data, 6, b"", stdout=full)
 
     # Prints the counts, also of runs in another order than the script's (which threads may give,
-    # and need not), and of what is wanted of the seed and never came.
+    # and need not), and reports what the seed should give and never gave.
     def finish(self, answers, pairs=()):
         names = collections.Counter({f"{command}: {what}": n
                                      for (command, what), n in self.answers.items()})

@@ -30,8 +30,8 @@ class Comparison:
     def compare(self, words, wanted, status=0, **streams):
         streams = {"stdin": subprocess.DEVNULL, "stdout": subprocess.PIPE,
                    "stderr": subprocess.DEVNULL, **streams}
-        ran = subprocess.run([PROGRAM, "gen", *words], **streams)
-        got = (ran.returncode, ran.stdout or b"")
+        ended = subprocess.run([PROGRAM, "gen", *words], **streams)
+        got = (ended.returncode, ended.stdout or b"")
         self.count(got == (status, wanted),
                    f"gen {' '.join(words)}: {got[0]} {got[1]!r}, not {status} {wanted!r}")
 

@@ -73,7 +73,7 @@ EXACT = {"apply": lambda words, data: reference.answer("apply", data)[:2],
 
 # ---- runs
 
-class Ran:
+class Run:
     """How a run ended: its status, what it printed, the lines of standard error, and whether a call
     was made to fail."""
 
@@ -83,12 +83,12 @@ class Ran:
         if library:
             settings["LD_PRELOAD"] = library
         try:
-            ran = subprocess.run([PROGRAM, *words], input=data, stdout=subprocess.PIPE,
+            ended = subprocess.run([PROGRAM, *words], input=data, stdout=subprocess.PIPE,
                                  stderr=subprocess.PIPE, pass_fds=[report],
                                  env=dict(os.environ, **settings), preexec_fn=before,
                                  timeout=SECONDS)
-            self.status, self.printed, self.lines = ran.returncode, ran.stdout, ran.stderr.count(
-                b"\n")
+            self.status, self.printed = ended.returncode, ended.stdout
+            self.lines = ended.stderr.count(b"\n")
         except subprocess.TimeoutExpired:
             self.status, self.printed, self.lines = "no end", b"", 0
         os.close(report)
@@ -109,15 +109,15 @@ class Checks:
             print(why)
 
     # Why a run's output isn't right, or None.
-    def wrong(self, words, data, ran):
+    def wrong(self, words, data, run):
         exact = EXACT.get(words[0])
         if exact is None:
-            return meaning.wrong(words[0], data, ran.status, ran.printed)
-        return None if (ran.status, ran.printed) == exact(words,
-            data) else f"{ran.status} {ran.printed[:100]!r}"
+            return meaning.wrong(words[0], data, run.status, run.printed)
+        return None if (run.status, run.printed) == exact(words,
+            data) else f"{run.status} {run.printed[:100]!r}"
 
     def check(self, words, name, data, **how):
-        why = self.wrong(words, data, Ran(words, data, **how))
+        why = self.wrong(words, data, Run(words, data, **how))
         self.count(why is None, f"{' '.join(words)} on {name}: {why}")
 
     # ---- refused allocations
@@ -133,18 +133,18 @@ class Checks:
         number = 0
         while True:
             number += 1
-            ran = Ran(words, data, {which: str(number)}, self.library)
-            if not ran.failed:
+            run = Run(words, data, {which: str(number)}, self.library)
+            if not run.failed:
                 break
             what = f"{' '.join(words)} on {name} with {which}={number}"
-            if ran.status == 7:
+            if run.status == 7:
                 # With all later allocations refused the line on standard error may be missing.
-                lines = ran.lines == 1 or which == "C5_ALLOC_FROM" and ran.lines == 0
-                self.count(ran.printed == b"" and lines,
-                    f"{what}: 7, but {ran.printed[:100]!r} and {ran.lines} lines on standard error")
+                lines = run.lines == 1 or which == "C5_ALLOC_FROM" and run.lines == 0
+                self.count(run.printed == b"" and lines,
+                    f"{what}: 7, but {run.printed[:100]!r} and {run.lines} lines on standard error")
             else:
-                self.count(self.wrong(words, data, ran) is None,
-                           f"{what}: {self.wrong(words, data, ran)}")
+                self.count(self.wrong(words, data, run) is None,
+                           f"{what}: {self.wrong(words, data, run)}")
         self.count(number > 10,
                    f"{' '.join(words)} on {name}: only {number - 1} allocations were refused")
 
@@ -158,26 +158,26 @@ class Checks:
                 self.fail_each(words, name, data, pieces)
 
     def fail_each(self, words, name, data, pieces):
-        whole = Ran(words, data)
+        whole = Run(words, data)
         self.count(self.wrong(words, data, whole) is None,
                    f"{' '.join(words)} on {name}: {self.wrong(words, data, whole)}")
         for which, size in (("C5_READ", len(data)), ("C5_WRITE", len(whole.printed))):
             number, most = 0, str(max(1, size // pieces))
             while True:
                 number += 1
-                ran = Ran(words, data, {which: str(number), "C5_SHORT": most}, self.library)
-                if not ran.failed:
+                run = Run(words, data, {which: str(number), "C5_SHORT": most}, self.library)
+                if not run.failed:
                     break
                 what = (f"{' '.join(words)} on {name} with {which}={number} C5_SHORT={most}: "
-                        f"{ran.status} {ran.printed[:100]!r}")
+                        f"{run.status} {run.printed[:100]!r}")
                 if which == "C5_READ":
-                    self.count((ran.status, ran.printed, ran.lines) == (5, b"", 1), what)
+                    self.count((run.status, run.printed, run.lines) == (5, b"", 1), what)
                 else:
-                    self.count((ran.status, ran.lines) == (6, 1)
-                        and whole.printed.startswith(ran.printed) and ran.printed != whole.printed,
+                    self.count((run.status, run.lines) == (6, 1)
+                        and whole.printed.startswith(run.printed) and run.printed != whole.printed,
                                what)
-            self.count((ran.status, ran.printed) == (0, whole.printed),
-                       f"{' '.join(words)} on {name} in pieces of {most}: {ran.status}")
+            self.count((run.status, run.printed) == (0, whole.printed),
+                       f"{' '.join(words)} on {name} in pieces of {most}: {run.status}")
             self.count(number > pieces,
                 f"{' '.join(words)} on {name} in pieces of {most}: only {number - 1} calls failed")
 

@@ -140,7 +140,7 @@ def script_within(data):
 
 
 def backup_parts(data):
-    script, rest = reference.read_script(data, front=True)
+    script, rest = reference.read_script(data, with_log=True)
     tables, txns = reference.read_log(rest)
     if list(tables) != names_and_types(script):
         raise reference.BadLog(4, "header")

@@ -118,7 +118,7 @@ class Frame:
             self.has_change = self.row is not None
 
 
-# The cells, or None where the bytes are not exactly theirs.
+# The cells, or None if the bytes are not exactly theirs.
 def read_cells(types, rest):
     cells = []
     for cell_type in types:
@@ -215,7 +215,8 @@ class Table:
         self.name, self.types = name, types
 
 
-# The words of a line, (quoted, bytes), and whether each quoted text is closed and stands apart.
+# The words of a line, (quoted, bytes), and whether each quoted text is closed, with a space or the
+# end of the line after it.
 def words_of(line):
     words, at, closed = [], 0, True
     while at < len(line):
@@ -287,11 +288,11 @@ class Script:
         self.tables, self.bodies, self.reads, self.turns = [], [], [], []
         self.block = None
 
-    def known(self, front):
+    def known(self, with_log):
         if self.block is not None:
             return (IN_TXN if self.block[0] == "txn" else IN_READ) + (b"end",)
         fresh = not (self.bodies or self.reads or self.turns)
-        later = (b"txn", b"read", b"turns") + (b"log",) * front if self.tables else ()
+        later = (b"txn", b"read", b"turns") + (b"log",) * with_log if self.tables else ()
         return (b"table",) * fresh + later
 
     # Whether the statement is within the limits that are tested before its words are counted.
@@ -365,7 +366,7 @@ class Script:
         return failed, values
 
     # Takes a line, and returns whether it ends the script. The tests that it fails: [(test, kind)].
-    def take(self, line, front):
+    def take(self, line, with_log):
         words, closed = words_of(line)
         failed = []
         if not only(line, PRINTABLE):
@@ -375,7 +376,7 @@ class Script:
         if not words:
             return False, failed
         quoted, first = words[0]
-        if quoted or first not in self.known(front):
+        if quoted or first not in self.known(with_log):
             failed.append(("word", "word"))
         values = []
         if not quoted and first in STATEMENTS:
@@ -423,21 +424,21 @@ def cell_in(cell_type, word):
     return text, "limit" if len(text) > 32 else None
 
 
-# The script, and what follows its `log` line where a log is to follow it.
-def read_script(data, front=False):
+# The script, and what follows its `log` line if a log is to follow it.
+def read_script(data, with_log=False):
     lines = data.split(b"\n")
     if not lines[-1]:
         lines.pop()
     script, at = Script(), 0
     for number, line in enumerate(lines, 1):
         at += len(line) + 1
-        ended, failed = script.take(line, front)
+        ended, failed = script.take(line, with_log)
         if failed:
             raise Refused(3, f"bad script line {number} {failed[0][1]}\n",
                           [test for test, _ in failed])
         if ended:
             return script, data[at:]
-    if front or script.block is not None or not script.tables:
+    if with_log or script.block is not None or not script.tables:
         raise Refused(3, f"bad script line {len(lines) + 1} unclosed\n", ["unclosed"])
     return script, b""
 

@@ -19,32 +19,38 @@ fn words<R: Env + AllocGlobal>(rt: &R, alloc: Global) -> io::Result<Vec<String>>
     Ok(env::args(rt)?.skip(1).collect(alloc)?)
 }
 
-// What went wrong and what to do, for a run whose output doesn't say it; empty for any other.
+// What went wrong and what to do, for a run whose output doesn't say it, for bad words only what to
+// do; empty for any other.
 fn advice(status: Status) -> &'static str
     ensures { result.now ≡ advice_of status }
 {
     match status {
-        Status::BadWords => "c5: bad words (try c5 --help):",
-        Status::ReadFault => "c5: reading standard input failed; nothing was written",
-        Status::WriteFault => "c5: writing standard output failed; what was written is not whole",
-        Status::NoMemory => "c5: out of memory; nothing was written",
+        Status::BadWords => "try c5 --help",
+        Status::ReadFault => "reading standard input failed, so nothing was written; \
+            check the input and run it again",
+        Status::WriteFault => "writing standard output failed, so the result isn't whole; \
+            run it again with another output",
+        Status::NoMemory => "out of memory, so nothing was written; \
+            run it again with more memory or a smaller input",
         Status::Ok | Status::BadScript | Status::BadLog | Status::TooLong | Status::Limit => "",
     }
 }
 
-// Writes what went wrong to standard error: one line, after bad words with the words in quotes.
+// Writes one line to standard error: what went wrong, with bad words in quotes, and what to do.
 fn explain(rt: &HostRuntime, status: Status, words: &[String]) -> io::Result<()> {
     let advice = advice(status);
     if advice.is_empty() {
         return Ok(());
     }
-    eprint!(rt; "{advice}")?;
+    eprint!(rt; "c5: ")?;
     if status == Status::BadWords {
+        eprint!(rt; "bad words")?;
         for word in words {
             eprint!(rt; " {word:?}")?;
         }
+        eprint!(rt; "; ")?;
     }
-    eprintln!(rt)
+    eprintln!(rt; "{advice}")
 }
 
 fn main(rt: HostRuntime) -> ExitCode {
@@ -54,10 +60,10 @@ fn main(rt: HostRuntime) -> ExitCode {
         Err(error) if error.kind() == ErrorKind::OutOfMemory => {
             (Status::NoMemory, Vec::new(alloc))
         }
-        // Words that are no text are no command.
+        // Words that aren't UTF-8 aren't a command.
         Err(_) => (run(&rt, &rt, alloc, &[]), Vec::new(alloc)),
     };
-    // If this fails too, the exit status still says it.
+    // If this fails too, the exit status still reports it.
     let _ = explain(&rt, status, &words);
     ExitCode::from(status.number())
 }
