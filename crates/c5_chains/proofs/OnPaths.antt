@@ -133,13 +133,13 @@ module _ (old now : Pass) (name : RowName) (k j w : ℕ) (h : IsOnPath old now n
   pub slot-place : (f kf : ℕ) → IsFirstWrite (names old.board) f
       → name_at (names old.board) f ≡ Some name → f ≤ old.scheduled + 1
       → LeadsToSlot (names old.board) f kf → kf ≡ k
-  slot-place f kf first named next leads = by (order k kf)
+  slot-place f kf first name_is next leads = by (order k kf)
     where
       same : (i : ℕ) → bucket_on_path (buckets_of old.board)
           (start_of_write (names old.board) (buckets_of old.board) f) i
           ≡ bucket_on_path (buckets_of old.board) (start_in old.board name) i
       same i = ap (λ (s : ℕ). bucket_on_path (buckets_of old.board) s i)
-          (start-named (names old.board) (buckets_of old.board) f name named)
+          (start-named (names old.board) (buckets_of old.board) f name name_is)
 
       order : (a b : ℕ) → (a < b) ⊎ ((b < a) ⊎ (b ≡ a))
       order a b = split (leb b a) refl
@@ -167,7 +167,7 @@ module _ (old now : Pass) (name : RowName) (k j w : ℕ) (h : IsOnPath old now n
           (sym (same kf)) ∙ leads.slot.holds in
           let other = All-get_or (IsOther (names old.board) name) h.passed kf 0
           (let l = h.count in omega arith) h.others in
-          absurd (other.other (ap (name_at (names old.board)) word ∙ named))
+          absurd (other.other (ap (name_at (names old.board)) word ∙ name_is))
       by (inr (inr e)) = e
 
 -- where the path is at an empty bucket
@@ -176,12 +176,12 @@ pub path-free : (old now : Pass) (name : RowName) (k j w : ℕ) → RowsAreNumbe
     → (first_in_bucket (names old.board) j ≤ old.scheduled
     → w ≡ first_in_bucket (names old.board) j) → w ≡ 0 → IsFree old name j
 path-free old now name k j w numbered indexed h scheduled is = record {
-  absent = λ v write named.
+  absent = λ v write name_is.
       let row = row_of (names old.board) v in
       let first = numbered.first v write in
       let low = numbered.not_above v in
       let its_name : name_at (names old.board) (row_of (names old.board) v) ≡ Some name =
-      numbered.one_name (row_of (names old.board) v) v first.write write first.first ∙ named in
+      numbered.one_name (row_of (names old.board) v) v first.write write first.first ∙ name_is in
       above_scheduled v (λ up_to.
       let path = indexed.path (row_of (names old.board) v) first in
       let place = slot-place old now name k j w h scheduled is
@@ -192,10 +192,10 @@ path-free old now name k j w numbered indexed h scheduled is = record {
       (slot-at (row_of (names old.board) v) its_name path.0 place) ∙ path.1.slot.holds in
       let found = scheduled (omega arith) in
       omega arith);
-  slot = λ f first named next.
+  slot = λ f first name_is next.
       let path = indexed.path f first in
-      let place = slot-place old now name k j w h scheduled is f path.0 first named next path.1 in
-      subst (IsSlot (names old.board) f) (sym (slot-at f named path.0 place)) path.1.slot;
+      let place = slot-place old now name k j w h scheduled is f path.0 first name_is next path.1 in
+      subst (IsSlot (names old.board) f) (sym (slot-at f name_is path.0 place)) path.1.slot;
 }
   where
     above_scheduled : (v : ℕ) → (v ≤ old.scheduled → ⊥) → old.scheduled < v
@@ -208,9 +208,9 @@ path-free old now name k j w numbered indexed h scheduled is = record {
     slot-at : (f : ℕ) → name_at (names old.board) f ≡ Some name → (kf : ℕ) → kf ≡ k
         → j ≡ bucket_on_path (buckets_of old.board)
         (start_of_write (names old.board) (buckets_of old.board) f) kf
-    slot-at f named kf e = h.bucket ∙
+    slot-at f name_is kf e = h.bucket ∙
         (λ i. bucket_on_path (buckets_of old.board)
-        (sym (start-named (names old.board) (buckets_of old.board) f name named) i) (sym e i))
+        (sym (start-named (names old.board) (buckets_of old.board) f name name_is) i) (sym e i))
 
 -- no path is of other rows alone
 pub path-meets_free : (old now : Pass) (name : RowName) (k j : ℕ)
@@ -279,9 +279,9 @@ pub row-found : (p now : Pass) (b : Board) (name : RowName) (j w : ℕ) → p.bo
     → now.scheduler ≡ p.scheduler → now.indexed ≡ p.indexed → IsFirstWrite (names p.board) w
     → name_at (names p.board) w ≡ Some name
     → (now.scheduler ≡ true → w ≡ bucket_up_to (names b) now.indexed j) → IsNumberOfRow p name w
-row-found p now b name j w of role kept first named own = record {
+row-found p now b name j w of role kept first name_is own = record {
   first = first;
-  named = named;
+  name_is = name_is;
   own = λ s.
       let here = own-found (names b) now.indexed j w (own (role ∙ s))
       (λ e. let some = first.write.positive in absurd (omega arith)) in

@@ -10,7 +10,7 @@ use Rattle.c5_chains.specs.declared.path_end.PathEnd.TheVariants.{Row, Free}
 -- the number of the row of this name
 pub record IsNumberOfRow (p : Pass) (name : RowName) (row : ℕ) : Type 0 where
   pub first : IsFirstWrite (names p.board) row
-  pub named : name_at (names p.board) row ≡ Some name
+  pub name_is : name_at (names p.board) row ≡ Some name
   pub own : p.scheduler ≡ true → row ≤ p.indexed
 
 -- no write of this name is scheduled, as far as the pass knows

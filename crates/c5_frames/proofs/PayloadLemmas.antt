@@ -14,7 +14,7 @@ use Rattle.c5_definitions.specs.declared.fault.LogKind.TheVariants as kinds
 use Rattle.c5_definitions.specs.Steps.{◌>>=◌}
 use Rattle.c5_definitions.specs.Frames.{Mark, Frame, write, mark, end, cell_at, cells_at, row_at}
 use Rattle.c5_definitions.specs.Frames.{frame_at}
-use Rattle.c5_frames.specs.Payloads.{unread, Shown, named, marked, ended, shown, shown_at}
+use Rattle.c5_frames.specs.Payloads.{unread, Shown, shows_name, marked, ended, shown, shown_at}
 
 -- ---- steps
 
@@ -136,7 +136,7 @@ row-left columns bytes (byte ∷ rest) e some =
 
 -- ---- what a checked payload holds
 
-named-frame : (frame : Frame) (name : RowName) → shown frame ≡ named name → (w : Write)
+named-frame : (frame : Frame) (name : RowName) → shown frame ≡ shows_name name → (w : Write)
     × (frame ≡ write w) × (w.name ≡ name)
 named-frame (write w) name e = (w, refl, cc)
 named-frame (mark m) name e = absurd cc
@@ -154,11 +154,11 @@ ended-frame (end found) count e = cc
 
 -- the payload of a write with this name
 pub shown-named : (tables : List TableDef) (payload : List ℕ) (name : RowName)
-    → shown_at tables payload ≡ Ok (named name) → (w : Write)
+    → shown_at tables payload ≡ Ok (shows_name name) → (w : Write)
     × (frame_at tables payload ≡ Ok (write w)) × (w.name ≡ name)
 shown-named tables payload name e =
-    let x = bind_ok (frame_at tables payload) (λ frame. Ok (shown frame)) (named name) e in
-    let w = named-frame x.0 name (ok_is (shown x.0) (named name) x.2) in
+    let x = bind_ok (frame_at tables payload) (λ frame. Ok (shown frame)) (shows_name name) e in
+    let w = named-frame x.0 name (ok_is (shown x.0) (shows_name name) x.2) in
     (w.0, x.1 ∙ ap (λ (f : Frame). Ok f) w.1, w.2)
 
 -- the payload of a mark

@@ -6,7 +6,7 @@ use Rattle.c5_definitions.specs.declared.fault.LogKind.{LogKind}
 use Rattle.c5_definitions.specs.declared.fault.LogKind.TheVariants as kinds
 use Rattle.c5_definitions.specs.Frames.{Mark, frame_at}
 use Rattle.c5_definitions.specs.Items.{frame_payload, is_above, last_of}
-use Rattle.c5_frames.specs.Payloads.{named, marked, ended, shown_at}
+use Rattle.c5_frames.specs.Payloads.{shows_name, marked, ended, shown_at}
 use Rattle.c5_frames.specs.declared.stage.Stage.TheVariants as stages
 use Rattle.c5_frames.specs.declared.index.TxnRef.{TxnRef}
 use Rattle.c5_frames.specs.declared.index.Index.{Index}
@@ -158,7 +158,7 @@ fault-count bytes p size m h shown higher other =
 
 pub ready-written : (bytes : List ℕ) (p : DecoderState) (size : ℕ) (name : RowName) (index : Index)
     (h : Takes bytes p size) → shown_at (tables_of p.schema) (item_at bytes p.at size)
-    ≡ Ok (named name)
+    ≡ Ok (shows_name name)
     → is_above name (last_of (tracks bytes p size h).writes) ≡ true
     → found_in index ≡ with_payload_place (found_in p.index) (record { at = p.at; size = size })
     → HasRoom (length bytes - (p.at + size)) index
@@ -179,7 +179,7 @@ ready-written bytes p size name index h shown above found room =
 
 pub fault-order : (bytes : List ℕ) (p : DecoderState) (size : ℕ) (name : RowName)
     (h : Takes bytes p size) → shown_at (tables_of p.schema) (item_at bytes p.at size)
-    ≡ Ok (named name)
+    ≡ Ok (shows_name name)
     → is_above name (last_of (tracks bytes p size h).writes) ≡ false
     → Faults bytes (decoded_state p) kinds.Order
 fault-order bytes p size name h shown above =

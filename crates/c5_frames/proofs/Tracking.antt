@@ -18,7 +18,7 @@ use Rattle.c5_definitions.specs.Items.{column_count, column_types, frame_length,
 use Rattle.c5_definitions.specs.Items.{nothing_more, size_of, begin_of, LogSoFar, Reading, last_of}
 use Rattle.c5_definitions.specs.Items.{is_above, expecting, after_write, after_mark, after_end}
 use Rattle.c5_definitions.specs.Items.{after_frame, after_item, after_whole, after_bytes, at_start}
-use Rattle.c5_frames.specs.Payloads.{Shown, named, marked, ended, shown}
+use Rattle.c5_frames.specs.Payloads.{Shown, shows_name, marked, ended, shown}
 use Rattle.c5_frames.specs.declared.index.Place.{Place}
 use Rattle.c5_frames.specs.declared.index.TxnRef.{TxnRef}
 use Rattle.c5_frames.specs.declared.index.Index.{Index}
@@ -180,7 +180,7 @@ holds-mark (Ok (mark m)) numbers e = let same : m ≡ numbers = cc in
 holds-mark (Ok (end n)) numbers e = absurd cc
 holds-mark (Err kind) numbers e = absurd cc
 
-pub holds-write : (r : Result Frame LogKind) (name : RowName) → show r ≡ Ok (named name)
+pub holds-write : (r : Result Frame LogKind) (name : RowName) → show r ≡ Ok (shows_name name)
     → (w : Write) × (r ≡ Ok (write w)) × (w.name ≡ name)
 holds-write (Ok (write w)) name e = let same : w.name ≡ name = cc in (w, refl, same)
 holds-write (Ok (mark m)) name e = absurd cc

@@ -26,12 +26,12 @@ write_name_at tables bytes = write_at tables bytes >>= λ w. Ok w.name
 
 -- what is shown of a payload: the name of a write, or the numbers of a mark
 pub data Shown : Type 0 where
-  named : RowName → Shown
+  shows_name : RowName → Shown
   marked : frames.Mark → Shown
   ended : ℕ → Shown
 
 abbrev pub shown : Frame → Shown
-shown (write w) = named w.name
+shown (write w) = shows_name w.name
 shown (mark m) = marked m
 shown (end count) = ended count
 
@@ -49,6 +49,6 @@ abbrev pub name_of : NameRef → RowName
 name_of n = record { table = n.table; key = n.key.now }
 
 abbrev pub shown_by : Checked → Shown
-shown_by (checked.Write n) = named (name_of n)
+shown_by (checked.Write n) = shows_name (name_of n)
 shown_by (checked.Mark m) = marked (numbers_of m)
 shown_by (checked.End count) = ended count

@@ -8,7 +8,7 @@ ghost use Rattle.c5_rows.specs.declared.tables.TableDef.{TableDef};
 ghost use Rattle.c5_rows.specs.declared.writes.Write.{Write};
 ghost use Rattle.c5_rows.specs.declared.writes.Txn.{Txn};
 ghost use Rattle.c5_definitions.specs.Items.{is_above, last_of};
-ghost use Rattle.c5_frames.specs.Payloads.{named, marked, ended, shown_at, name_of, numbers_of};
+ghost use Rattle.c5_frames.specs.Payloads.{shows_name, marked, ended, shown_at, name_of, numbers_of};
 ghost use Rattle.c5_frames.specs.Index.{found_in, payload_at, IsIndex};
 ghost use Rattle.c5_frames.specs.DecoderStates.{tables_of, decoded_state, IsReady, Faults};
 
@@ -59,7 +59,7 @@ fn take_write(bytes: &[u8], p: &mut DecoderState, size: u32, name: NameRef) -> R
     requires stage { p.old.stage ≡ Stage.Payload size }
     requires whole { p.old.at + size ≤ length bytes.now }
     requires shown { shown_at (tables_of p.old.schema) (take size (drop p.old.at bytes.now))
-        ≡ Ok (named (name_of name)) }
+        ≡ Ok (shows_name (name_of name)) }
     ensures ready { OnOk result (IsReady bytes.now p.new) }
     ensures further { OnOk result (p.old.at < p.new.at) }
     ensures fault { IfErr result (λ kind. Faults bytes.now (decoded_state p.old) kind) }

@@ -62,18 +62,18 @@ module _ (names : List RowName) (start state rows : State) (w : ℕ) (is : IsWri
   -- the first write of a row
   pub filled-first : (name : RowName) → name_at names w ≡ Some name
       → IsFilled names start state (with_row name (get state name) rows) w
-  filled-first name named = record {
+  filled-first name name_is = record {
     filled = λ v q is_v le at. set-at name q (get state name)
         (λ (o : Option (List Cell)). o ≡ get state q)
         (λ same. ap (get state) (sym same))
         (λ differ. f.filled v q is_v (dite (ℕ_discrete v w)
-        (λ same. let one : Some q ≡ Some name = sym at ∙ ap (name_at names) same ∙ named in
+        (λ same. let one : Some q ≡ Some name = sym at ∙ ap (name_at names) same ∙ name_is in
         let e : q ≡ name = cc in
         absurd (true≢false
         (sym (ap (λ (x : RowName). eq_by_cmp row_name_cmp x name) e ∙ own-name name) ∙ differ)))
         (λ other. let z : v - 0 ≡ v = omega arith in omega arith)) at);
     left = λ q later. set-at name q (get state name) (λ (o : Option (List Cell)). o ≡ get start q)
-        (λ same. let h = later w is (named ∙ ap Some (sym same)) in absurd (omega arith))
+        (λ same. let h = later w is (name_is ∙ ap Some (sym same)) in absurd (omega arith))
         (λ differ. f.left q (λ v is_v at. let h = later v is_v at in omega arith));
   }
 
@@ -121,12 +121,12 @@ pub filled-set : {T E : Type 0} (board : Board) (start rows new : State) (place 
     (last_on_row (names board) w (end_of board.log.txns place))
     → row ≡ row_or_before at (get start name) → OnOk r (new ≡ with_row name row rows)
     → OnOk r (IsFilled (names board) start (state_after start board.log.txns place) new w)
-filled-set board start rows new place w name at row r law is f first named value made set =
+filled-set board start rows new place w name at row r law is f first name_is value made set =
     let state = state_after start board.log.txns place in
     let same : row ≡ get state name =
     made ∙ ap (λ (a : At). row_or_before a (get start name)) value ∙ sym
-    (law.written name w first named) in
+    (law.written name w first name_is) in
     on_ok r (new ≡ with_row name row rows) (IsFilled (names board) start state new w)
     (λ e. subst (λ (s : State). IsFilled (names board) start state s w)
     (sym (e ∙ ap (λ (o : Option (List Cell)). with_row name o rows) same))
-    (filled-first (names board) start state rows w is f name named)) set
+    (filled-first (names board) start state rows w is f name name_is)) set

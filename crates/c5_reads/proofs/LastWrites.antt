@@ -202,9 +202,9 @@ row_is start txns place name =
 pub rows_are_of_last_writes : (start : State) (txns : List Txn) (place : ℕ)
     → RowsAreOfLastWrites start txns place
 rows_are_of_last_writes start txns place = record {
-  written = λ name row first named. row_is start txns place name
+  written = λ name row first name_is. row_is start txns place name
       ∙ ap (λ (w : ℕ). row_or_before (at_number (writes_of txns) w) (get start name))
-      (sym (last-named (names_in txns) row (end_of txns place) name named));
+      (sym (last-named (names_in txns) row (end_of txns place) name name_is));
   unwritten = λ name later. row_is start txns place name
       ∙ ap (λ (w : ℕ). row_or_before (at_number (writes_of txns) w) (get start name))
       (none-named (names_in txns) (end_of txns place) name later);

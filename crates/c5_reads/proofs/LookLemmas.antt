@@ -121,13 +121,13 @@ for-then p q r xs ys place same a b =
 pub found-is-row : (names : List RowName) (name : RowName) (row end : ℕ) → IsFirstWrite names row
     → name_at names row ≡ Some name → row_up_to names name end ≢ 0 → row_up_to names name end ≡ row
 unfolding row_of are_on_one_row
-found-is-row names name row end first named some =
+found-is-row names name row end first name_is some =
     let test = has_name names name in
     let k = least_up_to test end in
-    let own : test row ≡ true = has_own_name (name_at names row) name named in
+    let own : test row ≡ true = has_own_name (name_at names row) name name_is in
     let least : least_up_to test row ≡ row =
     ap (λ (o : Option RowName). least_up_to (λ v. are_one (name_at names v) o) row)
-    (sym named) ∙ first.first in
+    (sym name_is) ∙ first.first in
     let passes : test k ≡ true = least-passes test end some in
     let most : k ≤ end = least-not_above test end in
     let positive : 1 ≤ k = let z = some in omega arith in
@@ -191,7 +191,7 @@ for-found p q r name row end place is path down =
       within = head-within
           (row_up_to (names p.board) name (end_of p.board.log.txns place)) row loads records
           down.head
-          (found-is-row (names p.board) name row (end_of p.board.log.txns place) is.first is.named);
+          (found-is-row (names p.board) name row (end_of p.board.log.txns place) is.first is.name_is);
     }
 
 pub for-absent : (p q : Pass) (name : RowName) (place : ℕ) → IsAbsent p name

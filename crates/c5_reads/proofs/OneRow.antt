@@ -31,7 +31,7 @@ pub row-found : (p : Pass) (board : Board) (start : State) (place row : ℕ) (na
 row-found p board start place row name at found same law is value left =
     left ∙ ap (λ (a : At). row_or_before a (get start name)) value
     ∙ sym (law.written name row (subst (λ (b : Board). IsFirstWrite (names b) row) same is.first)
-    (subst (λ (b : Board). name_at (names b) row ≡ Some name) same is.named))
+    (subst (λ (b : Board). name_at (names b) row ≡ Some name) same is.name_is))
 
 pub row-absent : (p : Pass) (board : Board) (start : State) (place : ℕ) (name : RowName)
     (found : Option (List Cell)) → p.board ≡ board → RowsAreOfLastWrites start board.log.txns place

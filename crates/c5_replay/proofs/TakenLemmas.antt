@@ -352,11 +352,11 @@ pub end-answered : (q : Pass) (start : State) (reads : List ReadParts) (old new 
     → taken_by new
     ≡ with_one_taken (length (reads_of_session reads old.session)) place (taken_by old)
     → HasAnswered q start (reads_of_session reads session) new.replies.items
-end-answered q start reads old new place session h same named test is =
+end-answered q start reads old new place session h same name_is test is =
     let now = none-taken (length (reads_of_session reads old.session)) place (taken_by old)
     (taken_by new) test is in
     let test_new : nat_lt (length (taken_by new)) (length (reads_of_session reads new.session))
     ≡ false =
     (λ x. nat_lt (length (now x)) (length (reads_of_session reads (same x)))) ∙ test in
     subst (λ (n : ℕ). HasAnswered q start (reads_of_session reads n) new.replies.items)
-    (same ∙ named) (answered-all q start reads new h test_new)
+    (same ∙ name_is) (answered-all q start reads new h test_new)

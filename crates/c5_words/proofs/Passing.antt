@@ -39,7 +39,7 @@ pub record Known (old : Command) (id : Text) (most k : ℕ) (d : Arg) : Type 0 w
   pub only : (j : ℕ) (e : Arg) → j < length (args_of old)
       → bytes_eq (slice_index_or (args_of old) j e).id.now
       (slice_index_or (args_of old) k d).id.now ≡ true → j ≡ k
-  pub named : id ≡ [] → ⊥
+  pub name_is : id ≡ [] → ⊥
   pub own : IsAuto (slice_index_or (args_of old) k d) → ⊥
   pub parser : (slice_index_or (args_of old) k d).value_parser ≡ Some (Unsigned 1 most)
 
@@ -70,7 +70,7 @@ option_passes old m p plain globals id most k d known = go (matched_of (found_of
         let key : got.0.0.now ≡ id = (bytes_eq-Decides _ _).0 got.2 in
         let no_groups : groups_of p.built ≡ [] = (p.from.plain plain).1 in
         let no_group : got.0.1.is_group ≡ true → ⊥ = λ g. elim (got.3.3 g) [
-          | inl empty ↦ known.named (sym key ∙ empty)
+          | inl empty ↦ known.name_is (sym key ∙ empty)
           | inr lots ↦
               let bad : 0 < 0 = rw no_groups at lots in
               absurd (omega arith)

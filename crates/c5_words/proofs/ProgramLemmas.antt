@@ -129,7 +129,7 @@ known_option old same id most k c d low there is_id parser first some not_help n
           (ap (λ (t : Text). bytes_eq t id) (ap (λ (r : Rule). r.id) (at j e))
           ∙ (ap (λ (t : Text). bytes_eq (slice_index_or (args_of old) j e).id.now t) (sym here)
           ∙ same_id));
-      named = λ e.
+      name_is = λ e.
           let bad : 0 ≡ c = ap (λ (t : Text). slice_index_or t 0 0) (sym e) ∙ first in
           omega arith;
       own = λ auto. elim auto [

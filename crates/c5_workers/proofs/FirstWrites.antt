@@ -160,13 +160,13 @@ module _ (names : List RowName) where
   counted zero le = refl
   counted (suc n) le =
       let write : IsWrite names (suc n) = record { positive = omega arith; within = le } in
-      let named = (rows_are_numbered names).has_name (suc n) write in
-      let more : take (suc n) names ≡ take n names ++ named.0 ∷ [] =
-      take-suc names n named.0 (omega arith) ∙ ap (λ (m : RowName). take n names ++ m ∷ [])
-      (get_or_from_slice_get names n named.0 named.0 named.1) in
-      first-new n named.0 write named.1 (is_member is_same_name (take n names) named.0) refl
-      ∙ ap (count_with (is_member is_same_name (take n names) named.0)) (counted n (omega arith))
-      ∙ sym (count-append (take n names) named.0) ∙ ap row_count (sym more)
+      let name_is = (rows_are_numbered names).has_name (suc n) write in
+      let more : take (suc n) names ≡ take n names ++ name_is.0 ∷ [] =
+      take-suc names n name_is.0 (omega arith) ∙ ap (λ (m : RowName). take n names ++ m ∷ [])
+      (get_or_from_slice_get names n name_is.0 name_is.0 name_is.1) in
+      first-new n name_is.0 write name_is.1 (is_member is_same_name (take n names) name_is.0) refl
+      ∙ ap (count_with (is_member is_same_name (take n names) name_is.0)) (counted n (omega arith))
+      ∙ sym (count-append (take n names) name_is.0) ∙ ap row_count (sym more)
 
 pub rows_are_first_writes : RowsAreFirstWrites
 rows_are_first_writes names = counted names (length names) (omega arith) ∙ ap row_count

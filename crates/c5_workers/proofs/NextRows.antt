@@ -29,13 +29,13 @@ named-in p b l w write name of is some at e =
     (name_at-write l.txns w write some at ∙ ap (λ (n : RowName). Some n) (sym e))
 
 module _ (p : Pass) (w : ℕ) (name : RowName) (numbered : RowsAreNumbered (names p.board))
-    (next : IsNext p w) (named : name_at (names p.board) w ≡ Some name) where
+    (next : IsNext p w) (name_is : name_at (names p.board) w ≡ Some name) where
   next-write : IsWrite (names p.board) w
   next-write = next_write p w next
 
   found-row : (row : ℕ) → IsNumberOfRow p name row → row ≡ row_of (names p.board) w
   found-row row found = sym found.first.first ∙ numbered.one_row row w found.first.write next-write
-      (found.named ∙ sym named)
+      (found.name_is ∙ sym name_is)
 
   found-below : (row : ℕ) → IsNumberOfRow p name row → row < w
   found-below row found = let own = found.own next.role in let is = next.next in
@@ -54,7 +54,7 @@ module _ (p : Pass) (w : ℕ) (name : RowName) (numbered : RowsAreNumbered (name
         found = new;
         looks = record {
           name = name;
-          named = named;
+          name_is = name_is;
           path = subst (FollowsPath p new name)
               (ap (λ (r : ℕ). Some r) is ∙
               (λ i. if sym (ne_eqb (row_of (names p.board) w) w apart) i then None
@@ -73,19 +73,19 @@ module _ (p : Pass) (w : ℕ) (name : RowName) (numbered : RowsAreNumbered (name
       let low = numbered.not_above w in
       let is = next.next in
       let its_name = numbered.one_name
-      (row_of (names p.board) w) w first.write next-write first.first ∙ named in
+      (row_of (names p.board) w) w first.write next-write first.first ∙ name_is in
       let above = free.absent (row_of (names p.board) w) first.write its_name in
       record { write = next-write; first = omega arith }
 
   pub free-slot : (bucket : ℕ) → IsFree p name bucket → IsSlot (names p.board) w bucket
   free-slot bucket free = let is = next.next in
-      free.slot w (free-first bucket free) named (omega arith)
+      free.slot w (free-first bucket free) name_is (omega arith)
 
   looks-new : (new : Pass) → IsFirstWrite (names p.board) w → FollowsPath p new name None
       → LooksUp p new w
   looks-new new first path = record {
     name = name;
-    named = named;
+    name_is = name_is;
     path = subst (FollowsPath p new name)
         (λ i. if sym (eq-eqb (row_of (names p.board) w) w first.first) i then None
         else Some (row_of (names p.board) w)) path;

@@ -50,7 +50,7 @@ row_before names w = if row_of names w == w then None else Some (row_of names w)
 -- the path of w's name was followed
 pub record LooksUp (old new : Pass) (w : ℕ) : Type 0 where
   pub name : RowName
-  pub named : name_at (names old.board) w ≡ Some name
+  pub name_is : name_at (names old.board) w ≡ Some name
   pub path : FollowsPath old new name (row_before (names old.board) w)
 
 -- the last first write that is in the index, with w

@@ -48,7 +48,7 @@ returns-clause-filled c =
     in
     let at = subst (λ (b : Log). name_at (names (record c.args.board.now { log = b })) c.args.w
     ≡ Some c.write.result.name) log at_log in
-    let named = at ∙ ap (λ (n : RowName). Some n) (sym c.name-name.ensures) in
+    let name_is = at ∙ ap (λ (n : RowName). Some n) (sym c.name-name.ensures) in
     filled-set c.args.board.now c.args.origin.now.start.now c.args.rows.now c.set_row.new.rows
     c.args.origin.now.place c.args.w c.name-name.result _ _ c.set_row.result
     (c.last_write_law.ensures _ _ _) is c.requires.filled
@@ -56,7 +56,7 @@ returns-clause-filled c =
       write = is;
       first = eqb-true _ _
           (sym c.is_first.ensures.first ∙ c.if-not-is_first.false);
-    }) named
+    }) name_is
     c.value_at-at.ensures.value c.row_or_start.ensures c.set_row.ensures
 
 pub returns-clause-pass : goal.returns-clause-pass
