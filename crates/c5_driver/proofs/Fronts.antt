@@ -15,19 +15,18 @@ pub record IsEnd (bytes rest : List ℕ) : Type 0 where
   pub is : drop (length bytes - length rest) bytes ≡ rest
 
 none-before : (bytes : List ℕ) → IsEnd bytes bytes
-none-before bytes = record {
-  short = omega arith;
-  is = ap (λ (n : ℕ). drop n bytes) (omega arith : length bytes - length bytes ≡ 0);
-}
+none-before bytes =
+    let none : length bytes - length bytes ≡ 0 = omega arith in
+    record { short = omega arith; is = ap (λ (n : ℕ). drop n bytes) none }
 
 one-before : (byte : ℕ) (bytes rest : List ℕ) → IsEnd bytes rest → IsEnd (byte ∷ bytes) rest
 one-before byte bytes rest end =
     let short = end.short in
+    let one_more : length (byte ∷ bytes) - length rest ≡ suc (length bytes - length rest)
+    = omega (arith, short) in
     record {
       short = omega (arith, short);
-      is = ap (λ (n : ℕ). drop n (byte ∷ bytes))
-          (omega (arith, short) : length (byte ∷ bytes) - length rest
-          ≡ suc (length bytes - length rest)) ∙ end.is;
+      is = ap (λ (n : ℕ). drop n (byte ∷ bytes)) one_more ∙ end.is;
     }
 
 either-end : (b : Bool) (byte : ℕ) (bytes x y : List ℕ) → IsEnd bytes x → IsEnd bytes y

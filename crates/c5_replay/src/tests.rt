@@ -8,7 +8,6 @@ use c5_plan::plan;
 use c5_rows::{AnswerLine, Cell, Key, Reply, Row, RowName, Rows};
 use c5_script::ReadBlock;
 use std::alloc::Global;
-use std::process::Abort;
 use std::sync::atomic::{AtomicBool, AtomicU64, Ordering};
 use std::test::Fail;
 use std::thread::yield_now;
@@ -65,8 +64,8 @@ fn read_of(alloc: Global, session: u32, key: &[u8]) -> Result<ReadBlock, Fail>
     Ok(ReadBlock::new(alloc, session, ReadLine::OneRow { name })?)
 }
 
-// The reply to a read of one row is its number, or that it is absent.
-fn answers(rt: &impl Abort, reply: &Reply, key: &[u8], n: Option<i64>) -> Result<(), Fail> {
+// Whether the reply to a read of one row is its number, or that it is absent if there is none.
+fn answers(reply: &Reply, key: &[u8], n: Option<i64>) -> Result<bool, Fail> {
     let name = name(key)?;
     let want = match n {
         Some(n) => AnswerLine::Found {
@@ -75,8 +74,8 @@ fn answers(rt: &impl Abort, reply: &Reply, key: &[u8], n: Option<i64>) -> Result
         },
         None => AnswerLine::Absent { name },
     };
-    assert_eq!(rt; reply.answer.as_slice(), [want].as_slice());
-    Ok(())
+    let lines = reply.answer.as_slice();
+    Ok(lines.len() == 1 && lines[0] == want)
 }
 
 // A number that is there from this place on.
@@ -193,8 +192,9 @@ fn each_part_runs_beside_the_others(rt: HostRuntime) -> Result<(), Fail> {
     let replies = replayed.replies.as_slice();
     assert!(rt; replies.len() == 2);
     assert_eq!(rt; replies[0].place, 1);
-    answers(&rt, &replies[0], b"a", Some(1))?;
-    answers(&rt, &replies[1], b"a", Some(1))
+    assert!(rt; answers(&replies[0], b"a", Some(1))?);
+    assert!(rt; answers(&replies[1], b"a", Some(1))?);
+    Ok(())
 }
 
 #[test]
@@ -236,9 +236,9 @@ fn replies_are_by_ascending_session(rt: HostRuntime) -> Result<(), Fail> {
     assert_eq!(rt; replies[1].session, 2);
     assert_eq!(rt; replies[2].session, 2);
     assert!(rt; replies[1].place <= replies[2].place);
-    answers(&rt, &replies[0], b"a", since(1, 1, replies[0].place))?;
-    answers(&rt, &replies[1], b"b", since(2, 2, replies[1].place))?;
-    answers(&rt, &replies[2], b"c", None)?;
+    assert!(rt; answers(&replies[0], b"a", since(1, 1, replies[0].place))?);
+    assert!(rt; answers(&replies[1], b"b", since(2, 2, replies[1].place))?);
+    assert!(rt; answers(&replies[2], b"c", None)?);
     assert_eq!(rt; replayed.pass.place(), 2);
     let rows = replayed.rows.list(alloc)?;
     assert!(rt; rows.len() == 2);
@@ -279,9 +279,9 @@ fn a_write_waits_for_its_predecessor(rt: HostRuntime) -> Result<(), Fail> {
     assert_eq!(rt; replies[0].place, 0);
     assert_eq!(rt; replies[1].place, 2);
     assert_eq!(rt; replies[2].place, 3);
-    answers(&rt, &replies[0], b"a", None)?;
-    answers(&rt, &replies[1], b"a", Some(2))?;
-    answers(&rt, &replies[2], b"a", Some(3))?;
+    assert!(rt; answers(&replies[0], b"a", None)?);
+    assert!(rt; answers(&replies[1], b"a", Some(2))?);
+    assert!(rt; answers(&replies[2], b"a", Some(3))?);
     assert_eq!(rt; report.put_off, 1);
     assert_eq!(rt; report.rows.len(), 1);
     Ok(())
@@ -308,8 +308,8 @@ fn rounds_and_left_reads_follow_the_words(rt: HostRuntime) -> Result<(), Fail> {
     assert!(rt; replies.len() == 2);
     assert_eq!(rt; replies[0].place, 0);
     assert_eq!(rt; replies[1].place, 1);
-    answers(&rt, &replies[0], b"a", None)?;
-    answers(&rt, &replies[1], b"b", Some(2))?;
+    assert!(rt; answers(&replies[0], b"a", None)?);
+    assert!(rt; answers(&replies[1], b"b", Some(2))?);
     assert_eq!(rt; report.put_off, 0);
     assert_eq!(rt; report.rows.len(), 2);
     Ok(())
