@@ -2,8 +2,8 @@ use Rattle.std.proofs.Common.{◌∙◌, ℕ, List, Ok, ap, sym, arith}
 use Rattle.c5_driver.proofs.Fronts.{front-end}
 use Rattle.c5_driver.proofs.backup.script_of.Goals as goal
 
-pub overflow_sub-len : goal.overflow_sub-len
-overflow_sub-len c =
+pub overflow_sub-result : goal.overflow_sub-result
+overflow_sub-result c =
     let front = c.in-Ok.front in
     let end = front-end c.args.bytes.now front.rest.now front.script c.in-Ok.ensures in
     let short = end.short in
