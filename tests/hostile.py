@@ -130,7 +130,7 @@ class Checks:
                         self.refuse_each(words, name, input_of(words[0], data), which)
 
     def refuse_each(self, words, name, data, which):
-        number = 0
+        number, sevens = 0, 0
         while True:
             number += 1
             run = Run(words, data, {which: str(number)}, self.library)
@@ -138,6 +138,7 @@ class Checks:
                 break
             what = f"{' '.join(words)} on {name} with {which}={number}"
             if run.status == 7:
+                sevens += 1
                 # With all later allocations refused the line on standard error may be missing.
                 lines = run.lines == 1 or which == "C5_ALLOC_FROM" and run.lines == 0
                 self.count(run.printed == b"" and lines,
@@ -147,6 +148,7 @@ class Checks:
                            f"{what}: {self.wrong(words, data, run)}")
         self.count(number > 10,
                    f"{' '.join(words)} on {name}: only {number - 1} allocations were refused")
+        self.count(sevens > 0, f"{' '.join(words)} on {name}: no refused allocation gave status 7")
 
     # ---- reads and writes that fail
 
