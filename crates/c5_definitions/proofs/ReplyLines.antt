@@ -10,7 +10,6 @@ use Rattle.std.proofs.lemmas.Bool.Decides.{nat_tests}
 use Rattle.std.proofs.lemmas.List.Folds.{flat_map-map}
 use Rattle.c5_rows.specs.Bytes.{is_key_byte, is_text_byte, is_name_byte}
 use Rattle.c5_rows.specs.State.{State, state_after}
-use Rattle.c5_rows.specs.declared.answer.AnswerLine.{AnswerLine}
 use Rattle.c5_rows.specs.declared.cells.Cell.{Cell}
 use Rattle.c5_rows.specs.declared.cells.Cell.TheVariants.{Int, Txt}
 use Rattle.c5_rows.specs.declared.tables.TableDef.{TableDef}

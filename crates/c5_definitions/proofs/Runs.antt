@@ -1,15 +1,14 @@
--- Bodies of one statement, on the rows of the worked examples.
-use Rattle.std.proofs.Common.{◌≡◌, ◌∙◌, ℕ, Bool, true, List, [], ◌∷◌, map, Option, Some, None, cond}
+-- Bodies of one statement and of two, on the rows of the worked examples.
+use Rattle.std.proofs.Common.{◌≡◌, ◌∙◌, Bool, List, [], ◌∷◌, map, Option, Some, None, cond}
 use Rattle.std.proofs.Common.{refl, ap, sym}
 use Rattle.std.specs.Prelude.{pos, negsuc, ◌^◌, ◌-◌, codes}
-use Rattle.std.specs.FinMap.{FinMap, empty, get, insert, remove, entries, keys, put, get-insert}
+use Rattle.std.specs.FinMap.{empty, get, insert, entries, keys, put, get-insert}
 use Rattle.std.specs.FinMap.{get-remove, get-empty, len-entries, len-empty, entries-insert}
 use Rattle.std.specs.Ordering.{eq_by_cmp}
 use Rattle.std.specs.Cmp.{eq_by_cmp_equiv}
 use Rattle.std.proofs.lemmas.List.{nil_from_length}
 use Rattle.c5_rows.specs.declared.cells.Cell.{Cell}
 use Rattle.c5_rows.specs.declared.writes.RowName.{RowName}
-use Rattle.c5_rows.specs.declared.writes.Write.{Write}
 use Rattle.c5_rows.specs.Order.{row_name_cmp, row_name_cmp_total}
 use Rattle.c5_rows.specs.State.{State, after_change}
 use Rattle.c5_definitions.specs.declared.script.Statement.{Statement}
@@ -41,7 +40,7 @@ no_entries : entries (empty {X = Unit {0}} {R = row_name_cmp}) ≡ []
 no_entries = nil_from_length (entries (empty {R = row_name_cmp}))
     (sym (len-entries (empty {R = row_name_cmp})) ∙ len-empty row_name_cmp (Unit {0}))
 
-names_of : List (RowName × Unit {0}) → List RowName
+abbrev names_of : List (RowName × Unit {0}) → List RowName
 names_of es = map (λ e. e.0) es
 
 pub no_names : keys (empty {X = Unit {0}} {R = row_name_cmp}) ≡ []
@@ -111,3 +110,49 @@ single statement state found is =
 pub nothing : (state : State) → eval [] state ≡ wrote []
 unfolding eval
 nothing state = none_set state
+
+-- ---- two statements
+
+two_names : (a b : RowName)
+    → keys (insert (insert (empty {X = Unit {0}} {R = row_name_cmp}) a tt) b tt)
+    ≡ names_of (put row_name_cmp b tt ((a, tt) ∷ []))
+two_names a b = ap names_of
+    (entries-insert row_name_cmp_total (insert (empty {R = row_name_cmp}) a tt) b tt
+    ∙ ap (put row_name_cmp b tt)
+    (entries-insert row_name_cmp_total (empty {R = row_name_cmp}) a tt
+    ∙ ap (put row_name_cmp a tt) no_entries))
+
+-- the rows `a` and then `b` are set
+abbrev both_set : State → RowName → Option (List Cell) → RowName → Option (List Cell) → State
+both_set state a row b other = after_change b (change_to other) (after_change a (change_to row) state)
+
+pub two_set : (state : State) (a : RowName) (row : Option (List Cell)) (b : RowName)
+    (other : Option (List Cell))
+    → ending_of (Some (set_row b other (set_row a row (nothing_done state))))
+    ≡ wrote (map (λ (n : RowName). write_of n (get (both_set state a row b other) n))
+    (names_of (put row_name_cmp b tt ((a, tt) ∷ []))))
+two_set state a row b other =
+    ap (λ (names : List RowName). wrote
+    (map (λ (n : RowName). write_of n (get (both_set state a row b other) n)) names))
+    (two_names a b)
+
+-- how a body ends whose last statement has this effect
+abbrev pub ending_after : BodySoFar → Effect → Ending
+ending_after p effect =
+    ending_of
+    (elim effect [
+      | declines ↦ None
+      | keeps ↦ Some p
+      | sets name row ↦ Some
+          (set_row name row p)
+    ])
+
+-- the second of two statements, after a first that set a row
+pub second : (statement : Statement) (state : State) (name : RowName) (row : Option (List Cell))
+    (found : Option (List Cell))
+    → row_needed (needed statement) (after_change name (change_to row) state) ≡ found
+    → ending_of (after_statements (statement ∷ []) (set_row name row (nothing_done state)))
+    ≡ ending_after (set_row name row (nothing_done state)) (effect_of statement found)
+second statement state name row found is =
+    ap (λ (f : Option (List Cell)).
+    ending_after (set_row name row (nothing_done state)) (effect_of statement f)) is

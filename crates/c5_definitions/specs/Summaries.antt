@@ -17,7 +17,6 @@ use Rattle.c5_definitions.specs.Effects.{int_of_cell}
 use Rattle.c5_definitions.specs.Generated.{account_count, opening_balance, generated_script}
 use Rattle.c5_definitions.specs.Outputs.{no_rows, number_text}
 use Rattle.c5_definitions.specs.Replies.{in_reply_order, replies_at}
-use Rattle.c5_definitions.specs.ScriptParts.{ScriptParts}
 use Rattle.c5_definitions.specs.SerialRun.{serial_txns}
 use Rattle.c5_definitions.specs.Spelling.{spelled_log}
 

@@ -109,6 +109,31 @@ need_cases =
     record { body = Need (at (codes "z")) 0 Le (pos 0) ∷ []; ends = declined } ∷
     []
 
+-- statements one after the other: each sees the writes of those before it
+abbrev pub sequence_cases : List BodyCase
+sequence_cases =
+    -- one write for a row that is written twice
+    record {
+      body = Put (at (codes "c")) (int_row (pos 7)) ∷ Add (at (codes "c")) 0 (pos 1) ∷ [];
+      ends = wrote (put_of (codes "c") (pos 8) ∷ []);
+    } ∷
+    -- the second declines, and takes the write of the first with it
+    record {
+      body = Put (at (codes "c")) (int_row (pos 7)) ∷ Add (at (codes "z")) 0 (pos 1) ∷ [];
+      ends = declined;
+    } ∷
+    -- the writes ascend by name
+    record {
+      body = Put (at (codes "c")) (int_row (pos 1)) ∷ Put (at (codes "a")) (int_row (pos 2)) ∷ [];
+      ends = wrote (put_of (codes "a") (pos 2) ∷ put_of (codes "c") (pos 1) ∷ []);
+    } ∷
+    -- a row that the body itself has deleted
+    record {
+      body = Del (at (codes "a")) ∷ Need (at (codes "a")) 0 Eq (pos 10) ∷ [];
+      ends = declined;
+    } ∷
+    []
+
 -- two bodies: `c` becomes 7; and `c` grows by 1
 abbrev pub run_bodies : List (List Statement)
 run_bodies = (Put (at (codes "c")) (int_row (pos 7)) ∷ []) ∷ (Add (at (codes "c")) 0 (pos 1) ∷ [])

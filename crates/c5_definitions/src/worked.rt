@@ -8,6 +8,7 @@ ghost use Rattle.c5_rows.specs.State.{state_after};
 ghost use Rattle.c5_definitions.specs.Answers.{answer_of};
 ghost use Rattle.c5_definitions.specs.Lawful.{Spells};
 ghost use Rattle.c5_definitions.specs.Limits.{write_statements, written_row_count, excess_in};
+ghost use Rattle.c5_definitions.specs.Limits.{excess_of};
 ghost use Rattle.c5_definitions.specs.SerialRun.{serial_txns};
 ghost use Rattle.c5_definitions.specs.Texts.{rows_text};
 ghost use Rattle.c5_definitions.specs.Worked.{worked_tables, worked_txns, worked_bytes};
@@ -16,8 +17,10 @@ ghost use Rattle.c5_definitions.specs.Worked.{text_text};
 ghost use Rattle.c5_definitions.specs.WorkedLogFaults.{HaveFaults, header_faults, frame_faults};
 ghost use Rattle.c5_definitions.specs.WorkedLogFaults.{place_faults, cut_faults};
 ghost use Rattle.c5_definitions.specs.WorkedRuns.{EndSo, statement_cases, need_cases, start};
+ghost use Rattle.c5_definitions.specs.WorkedRuns.{sequence_cases};
 ghost use Rattle.c5_definitions.specs.WorkedRuns.{run_bodies, run_in_order, run_reversed};
 ghost use Rattle.c5_definitions.specs.WorkedRuns.{read_block, read_answer, counted_bodies};
+ghost use Rattle.c5_definitions.specs.WorkedScripts.{put_parts};
 ghost use Rattle.c5_definitions.specs.WorkedScriptFaults.{HaveScriptFaults, line_faults};
 ghost use Rattle.c5_definitions.specs.WorkedScriptFaults.{count_faults, word_faults};
 ghost use Rattle.c5_definitions.specs.WorkedScriptFaults.{unknown_faults};
@@ -75,10 +78,11 @@ pub fn worked_form_faults()
     ensures words { HaveScriptFaults later_word_faults }
 {}
 
-/// How bodies of one statement end: each form, and each relation.
+/// How bodies end: each form of statement by itself, each relation, and two statements.
 pub fn worked_bodies()
     ensures statements { EndSo statement_cases }
     ensures needs { EndSo need_cases }
+    ensures sequences { EndSo sequence_cases }
 {}
 
 /// The transactions of two bodies in both orders.
@@ -96,6 +100,7 @@ pub fn worked_answer()
 pub fn worked_limits()
     ensures writes { write_statements counted_bodies ≡ 4 }
     ensures rows { written_row_count counted_bodies ≡ 2 }
+    ensures of_a_script { excess_of put_parts ≡ None }
     ensures none { excess_in max_transactions max_writes max_rows ≡ None }
     ensures transactions_first { excess_in 65537 262145 65537 ≡ Some Excess.Transactions }
     ensures writes_next { excess_in max_transactions (max_writes + 1) (max_rows + 1)

@@ -1,6 +1,5 @@
 use Rattle.std.proofs.Common.{◌≡◌, ◌∙◌, List, [], ◌∷◌, Some, None, refl, ap}
 use Rattle.std.specs.Prelude.{pos, codes}
-use Rattle.c5_rows.specs.declared.writes.Txn.{Txn}
 use Rattle.c5_rows.specs.State.{State, after_writes}
 use Rattle.c5_definitions.specs.declared.script.Statement.{Statement}
 use Rattle.c5_definitions.specs.declared.script.Statement.TheVariants.{Put, Add}
