@@ -19,16 +19,16 @@ use Rattle.c5_board.specs.Boards.{Pass}
 use Rattle.c5_board.specs.Passes.{IsOutstanding}
 use Rattle.c5_board.specs.Boards.{record_of}
 
-named : (writes : List Write) (i : ℕ) (w : Write) → slice_get writes i ≡ Some w
+name_there : (writes : List Write) (i : ℕ) (w : Write) → slice_get writes i ≡ Some w
     → slice_get (map (λ (w : Write). w.name) writes) i ≡ Some w.name
-named [] i w e = absurd (cc)
-named (x ∷ xs) zero w e = let same : x ≡ w = cc in ap (λ (z : Write). Some z.name) same
-named (x ∷ xs) (suc i) w e = named xs i w e
+name_there [] i w e = absurd (cc)
+name_there (x ∷ xs) zero w e = let same : x ≡ w = cc in ap (λ (z : Write). Some z.name) same
+name_there (x ∷ xs) (suc i) w e = name_there xs i w e
 
-pub first_named : (txns : List Txn) (w : Write) → slice_get (writes_of txns) 0 ≡ Some w
+pub first_name : (txns : List Txn) (w : Write) → slice_get (writes_of txns) 0 ≡ Some w
     → name_at (names_in txns) 1 ≡ Some w.name
 unfolding names_in
-first_named txns w e = named (writes_of txns) 0 w e
+first_name txns w e = name_there (writes_of txns) 0 w e
 
 -- a log has a write if it has a name
 pub some_written : (log log' : Log) → log' ≡ log → 1 ≤ length (names_in log.txns)
@@ -36,12 +36,12 @@ pub some_written : (log log' : Log) → log' ≡ log → 1 ≤ length (names_in 
 some_written log log' same some_name = let e = length-names_in log'.txns in
     let f = ap (λ (l : Log). length (names_in l.txns)) same in omega arith
 
-pub named_first : (log log' : Log) (w : Write) (name : RowName) → log' ≡ log
+pub name_first : (log log' : Log) (w : Write) (name : RowName) → log' ≡ log
     → slice_get (writes_of log'.txns) 0 ≡ Some w → name ≡ w.name
     → name_at (names_in log.txns) 1 ≡ Some name
-named_first log log' w name same at is =
+name_first log log' w name same at is =
     ap (λ (l : Log). name_at (names_in l.txns) 1) (sym same) ∙
-    (first_named log'.txns w at ∙ ap Some (sym is))
+    (first_name log'.txns w at ∙ ap Some (sym is))
 
 -- the one worker's next number after 1 is 2
 pub outstanding_two : (p : Pass) → p.board.workers ≡ 1 → p.installed ≡ 1 ∷ [] → IsOutstanding p 1 2

@@ -22,7 +22,7 @@ fn one_log(alloc: Global) -> Result<LogBuffer, Fail> {
     let mut decoder = Decoder::new(alloc);
     match decoder.feed(ONE.as_slice()) {
         Ok(()) => {}
-        Err(_) => return Err(Fail::from("fed")),
+        Err(_) => return Err(Fail::from("the decoder refused the log")),
     }
     match decoder.finish() {
         Ok(log) => Ok(log),

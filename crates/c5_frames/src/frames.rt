@@ -8,7 +8,8 @@ ghost use Rattle.c5_rows.specs.declared.tables.TableDef.{TableDef};
 ghost use Rattle.c5_rows.specs.declared.writes.Write.{Write};
 ghost use Rattle.c5_rows.specs.declared.writes.Txn.{Txn};
 ghost use Rattle.c5_definitions.specs.Items.{is_above, last_of};
-ghost use Rattle.c5_frames.specs.Payloads.{shows_name, marked, ended, shown_at, name_of, numbers_of};
+ghost use Rattle.c5_frames.specs.Payloads.{shows_name, marked, ended, shown_at, name_of};
+ghost use Rattle.c5_frames.specs.Payloads.{numbers_of};
 ghost use Rattle.c5_frames.specs.Index.{found_in, payload_at, IsIndex};
 ghost use Rattle.c5_frames.specs.DecoderStates.{tables_of, decoded_state, IsReady, Faults};
 

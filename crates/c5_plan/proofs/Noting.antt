@@ -26,7 +26,7 @@ use Rattle.c5_plan.specs.Written.{last_from, last_write}
 use Rattle.c5_plan.specs.declared.written.NameRef.{NameRef}
 use Rattle.c5_plan.specs.Noted.{name_of_ref, Notes}
 use Rattle.c5_plan.proofs.Sizing.{length-names_in}
-use Rattle.c5_plan.proofs.Names.{found-inserted, IsDistinct-named, member-found}
+use Rattle.c5_plan.proofs.Names.{found-inserted, IsDistinct-name_of, member-found}
 
 pub same_laws : IsEquivalence is_same_name
 same_laws = eq_by_cmp_equiv row_name_cmp_total
@@ -152,9 +152,9 @@ unique_members (n ∷ names) q h =
     by false false m t p r = ap
         (λ (b : Bool). b || is_member is_same_name (unique_keys is_same_name names) q) t ∙ r p
 
-length-named : (entries : List (NameRef × ℕ))
+length-keys : (entries : List (NameRef × ℕ))
     → length (map name_of_ref (keys_of entries)) ≡ length entries
-length-named entries = length-map (keys_of entries) name_of_ref ∙ length-keys_of entries
+length-keys entries = length-map (keys_of entries) name_of_ref ∙ length-keys_of entries
 
 members : (entries : List (NameRef × ℕ)) (names : List RowName) → Notes entries names
     → (q : RowName) → is_member is_same_name (map name_of_ref (keys_of entries)) q
@@ -165,14 +165,14 @@ members entries names h q = member-found name_of_ref is_same_name q entries ∙ 
 -- the number of rows that are noted
 pub length-noted : (entries : List (NameRef × ℕ)) (names : List RowName) → Notes entries names
     → length entries ≡ row_count names
-length-noted entries names h = sym (length-named entries) ∙ length-from_keys same_laws
+length-noted entries names h = sym (length-keys entries) ∙ length-from_keys same_laws
     (map name_of_ref (keys_of entries)) names h.distinct (members entries names h)
 
 -- a prefix of the writes has no more rows
 pub length-noted_le : (entries : List (NameRef × ℕ)) (names : List RowName) (i : ℕ)
     → Notes entries (take i names) → length entries ≤ row_count names
 length-noted_le entries names i h =
-    let e = length-named entries in
+    let e = length-keys entries in
     let few = length-le_from_is_member same_laws (map name_of_ref (keys_of entries))
     (unique_keys is_same_name names) h.distinct
     (λ q m. unique_members names q
@@ -196,7 +196,7 @@ Notes-inserted eq agrees entries after names i name h at is distinct =
     let within = slice_get_within names i (name_of_ref name) at in
     let len : 1 + length (take i names) ≡ i + 1 = omega (arith, length-take i names) in
     record {
-      distinct = IsDistinct-named name_of_ref eq is_same_name agrees (keys_of after) distinct;
+      distinct = IsDistinct-name_of name_of_ref eq is_same_name agrees (keys_of after) distinct;
       last = λ q.
           ap (λ (es : List (NameRef × ℕ)). lookup
           (λ (n : NameRef). is_same_name q (name_of_ref n)) es) is

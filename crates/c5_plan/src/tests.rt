@@ -21,7 +21,7 @@ const LOG: &[u8] = b"C5L1\x01\x04acct\x01\x01\
 
 fn log(alloc: Global) -> Result<LogBuffer, Fail> {
     let mut decoder = Decoder::new(alloc);
-    decoder.feed(LOG).ok().ok_or("fed")?;
+    decoder.feed(LOG).ok().ok_or("the decoder refused the log")?;
     Ok(decoder.finish().ok().ok_or("a log")?)
 }
 

@@ -189,9 +189,8 @@ for-found p q r name row end place is path down =
           (λ (x : Pass). x.looks ++ (LoadHead row down.head ∷ records)) path.pass
           ∙ append_assoc p.looks loads (LoadHead row down.head ∷ records);
       within = head-within
-          (row_up_to (names p.board) name (end_of p.board.log.txns place)) row loads records
-          down.head
-          (found-is-row (names p.board) name row (end_of p.board.log.txns place) is.first is.name_is);
+          (row_up_to (names p.board) name last) row loads records down.head
+          (found-is-row (names p.board) name row last is.first is.name_is);
     }
 
 pub for-absent : (p q : Pass) (name : RowName) (place : ℕ) → IsAbsent p name

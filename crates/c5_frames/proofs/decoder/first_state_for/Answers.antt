@@ -10,7 +10,8 @@ pub returns : goal.returns
 returns c =
     let first = c.first_state-progress.result in
     let bytes = c.args.bytes.now in
-    ready-more [] bytes bytes first _ c.first_state-progress.ensures.decodes (omega (arith, c.requires))
+    let begins = c.first_state-progress.ensures in
+    ready-more [] bytes bytes first _ begins.decodes (omega (arith, c.requires))
     (ap
     (λ (found : Found). record {
       tables = tables_of first.schema;
@@ -19,5 +20,5 @@ returns c =
       found = found;
     }) c.in_ok-reserve.ensures.unchanged) refl
     (subst (λ (at : ℕ). HasRoom (length bytes - at) c.reserve.new.self)
-    (sym c.first_state-progress.ensures.at)
+    (sym begins.at)
     (simp unary_clauses c.in_ok-reserve.ensures.room))
