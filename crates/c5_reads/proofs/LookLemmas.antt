@@ -183,6 +183,7 @@ for-found p q r name row end place is path down =
     let loads = path_loads (buckets_of p.board) (start_in p.board name) (path.passed ++ row ∷ []) in
     let records = map (λ w. LoadRecord w (record_of (names q.board) w))
     (numbers_above (names q.board) row end down.head) in
+    let last = end_of p.board.log.txns place in
     record {
       more = loads ++ LoadHead row down.head ∷ records;
       added = ap (λ (x : Pass). x.looks) down.pass ∙ ap
