@@ -5,11 +5,11 @@ use std::alloc::Global;
 use std::test::Fail;
 use std::thread::Threads;
 
-// Bytes that a source gives and a sink takes in one call.
-const STEP: usize = 8;
+// Bytes that a source gives and a sink takes in one call: with one, each byte has a call that fails.
+const STEP: usize = 1;
 
 // More calls than any run here makes.
-const CALLS: u64 = 40;
+const CALLS: u64 = 100;
 
 // The rows after the one put.
 const ROWS: &[u8] = b"acct a 10\nrows 1\n";
@@ -90,18 +90,18 @@ fn script_and_log(alloc: Global) -> Result<Vec<u8>, Fail> {
 #[test]
 fn each_call_fails_in_turn_for_apply(rt: HostRuntime) -> Result<(), Fail> {
     let alloc = rt.alloc();
-    // 59 bytes by 8 and the end; 17 bytes by 8 and the flush.
-    assert_eq!(rt; reads(&rt, alloc, "apply", &ONE_PUT)?, 9);
-    assert_eq!(rt; writes(&rt, alloc, "apply", &ONE_PUT, ROWS)?, 4);
+    // 59 bytes and the end; 17 bytes and the flush.
+    assert_eq!(rt; reads(&rt, alloc, "apply", &ONE_PUT)?, 60);
+    assert_eq!(rt; writes(&rt, alloc, "apply", &ONE_PUT, ROWS)?, 18);
     Ok(())
 }
 
 #[test]
 fn each_call_fails_in_turn_for_primary(rt: HostRuntime) -> Result<(), Fail> {
     let alloc = rt.alloc();
-    // 37 bytes by 8 and the end; 59 bytes by 8 and the flush.
-    assert_eq!(rt; reads(&rt, alloc, "primary", SCRIPT)?, 6);
-    assert_eq!(rt; writes(&rt, alloc, "primary", SCRIPT, &ONE_PUT)?, 9);
+    // 37 bytes and the end; 59 bytes and the flush.
+    assert_eq!(rt; reads(&rt, alloc, "primary", SCRIPT)?, 38);
+    assert_eq!(rt; writes(&rt, alloc, "primary", SCRIPT, &ONE_PUT)?, 60);
     Ok(())
 }
 
@@ -109,18 +109,18 @@ fn each_call_fails_in_turn_for_primary(rt: HostRuntime) -> Result<(), Fail> {
 fn each_call_fails_in_turn_for_backup(rt: HostRuntime) -> Result<(), Fail> {
     let alloc = rt.alloc();
     let input = script_and_log(alloc)?;
-    // 78 bytes by 8 and the end; 17 bytes by 8 and the flush.
-    assert_eq!(rt; reads(&rt, alloc, "backup", &input)?, 11);
-    assert_eq!(rt; writes(&rt, alloc, "backup", &input, ROWS)?, 4);
+    // 78 bytes and the end; 17 bytes and the flush.
+    assert_eq!(rt; reads(&rt, alloc, "backup", &input)?, 79);
+    assert_eq!(rt; writes(&rt, alloc, "backup", &input, ROWS)?, 18);
     Ok(())
 }
 
 #[test]
 fn each_call_fails_in_turn_for_clone(rt: HostRuntime) -> Result<(), Fail> {
     let alloc = rt.alloc();
-    // 37 bytes by 8 and the end; 25 bytes by 8 and the flush.
-    assert_eq!(rt; reads(&rt, alloc, "clone", SCRIPT)?, 6);
+    // 37 bytes and the end; 25 bytes and the flush.
+    assert_eq!(rt; reads(&rt, alloc, "clone", SCRIPT)?, 38);
     let text = b"order 0\nacct a 10\nrows 1\n";
-    assert_eq!(rt; writes(&rt, alloc, "clone", SCRIPT, text)?, 5);
+    assert_eq!(rt; writes(&rt, alloc, "clone", SCRIPT, text)?, 26);
     Ok(())
 }

@@ -78,6 +78,7 @@ fn apply_ends_with_each_status(rt: HostRuntime) -> Result<(), Fail> {
             Status::BadLog,
             b"bad log at 50 cut\n",
         ),
+        case(APPLY, &ONE_PUT[..58], NONE, &[1], Status::BadLog, b""),
         case(APPLY, &ONE_PUT[..58], NONE, &[2], Status::BadLog, b"bad "),
         case(
             &["frob"],

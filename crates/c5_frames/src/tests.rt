@@ -134,6 +134,28 @@ fn one_transaction_byte_by_byte(rt: HostRuntime) -> Result<(), Fail> {
 }
 
 #[test]
+fn bytes_that_are_given_are_decoded(rt: HostRuntime) -> Result<(), Fail> {
+    let alloc = rt.alloc();
+    let log = match Decoder::of_bytes(alloc, ONE.to_vec(alloc)?)?.finish() {
+        Ok(log) => log,
+        Err(_) => return Err(Fail::from("a fault")),
+    };
+    assert_eq!(rt; log.bytes(), ONE.as_slice());
+    assert_eq!(rt; log.writes(), 1);
+    match Decoder::of_bytes(alloc, ONE[..58].to_vec(alloc)?)?.finish() {
+        Ok(_) => assert!(rt; false, "no fault"),
+        Err(fault) => assert_eq!(rt;
+            fault,
+            LogFault {
+                offset: 50,
+                kind: LogKind::Cut
+            }
+        ),
+    }
+    Ok(())
+}
+
+#[test]
 fn each_prefix_is_cut(rt: HostRuntime) -> Result<(), Fail> {
     let mut begin = 0;
     for count in 0..ONE.len() {

@@ -1,7 +1,7 @@
 use Rattle.std.proofs.Common.{subst, sym, ◌∙◌}
 use Rattle.c5_definitions.specs.RowIndex.{IsSlot}
 use Rattle.c5_board.specs.Boards.{names}
-use Rattle.c5_board.proofs.FirstWrite.{some_written, named_first, first_one, record_one, slot_one}
+use Rattle.c5_board.proofs.FirstWrite.{some_written, name_first, first_one, record_one, slot_one}
 use Rattle.c5_reads.proofs.tests.schedule_first.Goals as goal
 
 pub write-requires-clause-within : goal.write-requires-clause-within
@@ -14,7 +14,7 @@ store_bucket-requires-clause-first c = first_one (names c.args.board.now) c.requ
 
 pub store_bucket-requires-clause-slot : goal.store_bucket-requires-clause-slot
 store_bucket-requires-clause-slot c =
-    let name = named_first c.args.board.now.log c.log.result.now _ _
+    let name = name_first c.args.board.now.log c.log.result.now _ _
     (c.log.ensures.value ∙ c.plan.ensures.log) c.write.ensures c.name-name.ensures in
     subst (IsSlot (names c.args.board.now) 1) (sym c.start-slot.ensures.value)
     (slot_one (names c.args.board.now) c.requires.some c.name-name.result name)
