@@ -6,7 +6,7 @@ each, and no load.
 refused  each allocation of a run is refused in turn, alone and with all later ones: status 7 and
          nothing printed, or the right output (a thread that can't be started runs elsewhere)
 failing  each read and each write fails in turn: status 5 and nothing printed, or 6 and a prefix of
-         the output
+         the output; on a small script also with calls that move one byte each
 cut      a log is cut after each byte
 corners  no transactions on 16 workers, 256 read blocks, one processor
 load     200 runs on several threads, beside busy processes
@@ -39,6 +39,7 @@ QUICK = PARTS[:-1]
 SECONDS = 120
 
 TABLE = b"table acct int\n"
+ONE = b"txn\nput acct a 1\nend\n"
 TURNS = b"turns w2 w2 v s1 w1 w1 w2 v s2 s1 w1 w1 w2 w1 v s3\n"
 MOVES = b"".join(
     b"txn\nput acct a%d %d\nput acct b%d 0\nend\n" % (n, n, n)
@@ -158,13 +159,17 @@ class Checks:
                                                "turns": MOVES + READS + TURNS}[name])
             for pieces in (1, 10) if self.quick else (1, 10, 150):
                 self.fail_each(words, name, data, pieces)
+        for command in ("apply", "primary", "backup", "clone"):
+            self.fail_each([command], "one", input_of(command, TABLE + ONE), None)
 
+    # The calls move so many pieces of the input and of the output, or one byte each.
     def fail_each(self, words, name, data, pieces):
         whole = Run(words, data)
         self.count(self.wrong(words, data, whole) is None,
                    f"{' '.join(words)} on {name}: {self.wrong(words, data, whole)}")
         for which, size in (("C5_READ", len(data)), ("C5_WRITE", len(whole.printed))):
-            number, most = 0, str(max(1, size // pieces))
+            least = pieces or size
+            number, most = 0, str(max(1, size // least))
             while True:
                 number += 1
                 run = Run(words, data, {which: str(number), "C5_SHORT": most}, self.library)
@@ -180,7 +185,7 @@ class Checks:
                                what)
             self.count((run.status, run.printed) == (0, whole.printed),
                        f"{' '.join(words)} on {name} in pieces of {most}: {run.status}")
-            self.count(number > pieces,
+            self.count(number > least,
                 f"{' '.join(words)} on {name} in pieces of {most}: only {number - 1} calls failed")
 
     # ---- logs that end early
