@@ -1,3 +1,4 @@
+pub mod HashedNames
 pub mod InOrder
 pub mod Latest
 pub mod Serial

@@ -2,6 +2,7 @@
 #![tactic(auto)]
 
 mod finishing;
+mod hashed_name;
 mod held;
 mod joining;
 mod latest;
