@@ -36,7 +36,23 @@ fn advice(status: Status) -> &'static str
     }
 }
 
-// Writes one line to standard error: what went wrong, with bad words in quotes, and what to do.
+// Writes why these words are refused, with each of them in quotes.
+fn explain_words(rt: &HostRuntime, words: &[String]) -> io::Result<()> {
+    if words.is_empty() {
+        return eprint!(rt; "no command; ");
+    }
+    // Each command alone is accepted.
+    if words.len() == 1 && !words[0].starts_with("-") {
+        return eprint!(rt; "no such command {:?}; ", words[0]);
+    }
+    eprint!(rt; "not a command with its options:")?;
+    for word in words {
+        eprint!(rt; " {word:?}")?;
+    }
+    eprint!(rt; "; ")
+}
+
+// Writes one line to standard error: what went wrong and what to do.
 fn explain(rt: &HostRuntime, status: Status, words: &[String]) -> io::Result<()> {
     let advice = advice(status);
     if advice.is_empty() {
@@ -44,11 +60,7 @@ fn explain(rt: &HostRuntime, status: Status, words: &[String]) -> io::Result<()>
     }
     eprint!(rt; "c5: ")?;
     if status == Status::BadWords {
-        eprint!(rt; "bad words")?;
-        for word in words {
-            eprint!(rt; " {word:?}")?;
-        }
-        eprint!(rt; "; ")?;
+        explain_words(rt, words)?;
     }
     eprintln!(rt; "{advice}")
 }
