@@ -1,15 +1,17 @@
 -- Replies of sessions, one session after the other.
 use Rattle.std.proofs.Common.{◌≡◌, ◌∙◌, ◌+◌, ◌≤◌, ◌<◌, ◌==◌, ◌++◌, ℕ, zero, suc, Bool, true, false}
 use Rattle.std.proofs.Common.{cond, List, [], ◌∷◌, length, map, ap, sym, subst, refl, arith, rules}
-use Rattle.std.proofs.Common.{eq-eqb, Some, slice_get, drop, max}
+use Rattle.std.proofs.Common.{eq-eqb, Some, slice_get, get_or, drop, max, ⊎_elim, ◌-◌}
 use Rattle.std.specs.List.{AllByRecursion, filter, flat_map, range_with_len, zip}
-use Rattle.std.proofs.lemmas.Bool.{eqb-true}
+use Rattle.std.proofs.Math.Seq.{drop-cons}
+use Rattle.std.proofs.lemmas.Bool.{eqb-true, cases_lt}
 use Rattle.std.proofs.lemmas.List.{append_assoc, append-nil, length-append, map-append}
 use Rattle.std.proofs.lemmas.List.Concat.{flat_map-cons}
 use Rattle.std.proofs.lemmas.List.Elements.{filter-append}
 use Rattle.std.proofs.lemmas.Grind.{flat_map-append}
 use mathlib.Core.Logic.{dite}
 use native.Mathlib.Decide.{ℕ_discrete}
+use Rattle.c5_rows.specs.Sizes.{max_sessions}
 use Rattle.c5_rows.specs.State.{State}
 use Rattle.c5_rows.specs.declared.answer.Reply.{Reply}
 use Rattle.c5_rows.specs.declared.writes.Txn.{Txn}
@@ -24,6 +26,7 @@ use Rattle.c5_board.proofs.SetLemmas.{not_true}
 use Rattle.c5_reads.specs.Looks.{Wanted, AreWithin}
 use Rattle.c5_replay.specs.Answered.{places_of, replies_of_session, loads_of_reads, AreAnswered}
 use Rattle.c5_replay.specs.Answered.{HasAnswered}
+use Rattle.c5_replay.specs.Parts.{HaveSessionsUpTo}
 use Rattle.c5_replay.specs.Replays.{HasLoadedReads}
 use Rattle.c5_replay.specs.Joins.{IsJoined, HaveReplied, reads_up_to}
 use Rattle.c5_replay.proofs.Within.{within-front, within-back, all-append, all-mono, zip-append}
@@ -296,3 +299,55 @@ read-taken reads k number read done at same h =
     ap (λ (l : List ReadParts). reads_of_session l number) (drop-at reads k read at) ∙ ap
     (λ (b : Bool). cond b (read ∷ rest) rest) (eq-eqb read.session number same) in
     append_assoc done (read ∷ []) rest ∙ (ap (λ (l : List ReadParts). done ++ l) (sym here) ∙ h)
+
+-- ---- sessions without reads
+
+-- one read more that isn't of a later session
+pub sessions-next : (reads : List ReadParts) (i k : ℕ) (read : ReadParts) → i < length reads
+    → read ≡ get_or reads i read → read.session ≤ k → HaveSessionsUpTo k (drop (i + 1) reads)
+    → HaveSessionsUpTo k (drop i reads)
+sessions-next reads i k read within is low rest =
+    let next : i + 1 ≡ suc i = omega arith in
+    subst (HaveSessionsUpTo k)
+    (sym
+    (drop-cons reads i read within ∙ ap (λ (r : ReadParts). r ∷ drop (suc i) reads) (sym is)))
+    (low, subst (λ (m : ℕ). HaveSessionsUpTo k (drop m reads)) next rest)
+
+no-reads : (reads : List ReadParts) (n session : ℕ) → HaveSessionsUpTo n reads → n < session
+    → reads_of_session reads session ≡ []
+no-reads [] n session all above = refl
+no-reads (r ∷ reads) n session all above =
+    ap
+    (λ (b : Bool).
+    cond b (r ∷ reads_of_session reads session) (reads_of_session reads session))
+    (not_true (r.session == session)
+    (λ t. let low = all.0 in let same = eqb-true r.session session t in omega arith))
+    ∙ no-reads reads n session all.1 above
+
+-- later sessions have no reads
+no-more-reads : (reads : List ReadParts) (n k : ℕ) → HaveSessionsUpTo n reads
+    → reads_up_to reads n ≡ reads_up_to reads (n + k)
+no-more-reads reads n zero all = ap (reads_up_to reads) (omega arith)
+no-more-reads reads n (suc k) all =
+    no-more-reads reads n k all
+    ∙ sym
+    (reads-more reads (n + k) (n + suc k) (omega arith)
+    ∙ ap (λ (l : List ReadParts). reads_up_to reads (n + k) ++ l)
+    (no-reads reads n (n + suc k) all (omega arith)) ∙ append-nil (reads_up_to reads (n + k)))
+
+pub replied-all : (p : Pass) (start : State) (reads : List ReadParts) (n : ℕ)
+    (replies : List Reply) → n ≤ max_sessions → HaveSessionsUpTo n reads
+    → HaveReplied p start reads n replies → HaveReplied p start reads max_sessions replies
+replied-all p start reads n replies few all so_far = record {
+  answered = subst (λ (rs : List ReadParts). AreAnswered p.board.log start rs replies)
+      (no-more-reads reads n (max_sessions - n) all
+      ∙ ap (reads_up_to reads) (let e : n + (max_sessions - n) ≡ max_sessions = omega arith in e))
+      so_far.answered;
+  loads = λ session is. ⊎_elim
+      (λ (above : n < session).
+      subst
+      (λ (rs : List ReadParts). AreWithin
+      (loads_of_reads p.board.log.txns rs (places_of (replies_of_session replies session))) p.looks)
+      (sym (no-reads reads n session all above)) tt)
+      (λ (low : session ≤ n). so_far.loads session (is.0, low)) (cases_lt n session);
+}

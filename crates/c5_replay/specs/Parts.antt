@@ -1,7 +1,6 @@
 -- The parts of a replay, each with its pass: before they run, and after.
-use Rattle.std.specs.Prelude.{◌≡◌, ◌++◌, ℕ, true, List, [], ◌∷◌, IfOk, Result, map}
+use Rattle.std.specs.Prelude.{◌≡◌, ◌≤◌, ◌++◌, ℕ, true, List, [], ◌∷◌, IfOk, Result, map}
 use Rattle.std.specs.List.{AllByRecursion, range_with_len}
-use Rattle.c5_rows.specs.Sizes.{max_sessions}
 use Rattle.c5_rows.specs.State.{State}
 use Rattle.c5_rows.specs.declared.memory.NoMemory.{NoMemory}
 use Rattle.c5_definitions.specs.Replies.{reads_of_session}
@@ -41,15 +40,20 @@ Plays board start reads (parts.Session session pass replies) = IsPassWith board 
 abbrev pub ArePlaying : Board → State → List Part → Type 0
 ArePlaying board start parts = AllByRecursion (Plays board start []) parts
 
+-- no read is of a session above this one
+abbrev pub HaveSessionsUpTo : ℕ → List ReadParts → Type 0
+HaveSessionsUpTo sessions reads = AllByRecursion (λ (read : ReadParts). read.session ≤ sessions) reads
+
 -- the roles of a replay: the scheduler, the snapshotter, the sessions and the workers
-abbrev pub session_roles : List Role
-session_roles = map roles.Session (range_with_len 1 max_sessions)
+abbrev pub session_roles : ℕ → List Role
+session_roles sessions = map roles.Session (range_with_len 1 sessions)
 
 abbrev pub worker_roles : ℕ → List Role
 worker_roles workers = map roles.Worker (range_with_len 1 workers)
 
-abbrev pub all_roles : ℕ → List Role
-all_roles workers = roles.Scheduler ∷ roles.Snapshot ∷ session_roles ++ worker_roles workers
+abbrev pub all_roles : ℕ → ℕ → List Role
+all_roles sessions workers =
+    roles.Scheduler ∷ roles.Snapshot ∷ session_roles sessions ++ worker_roles workers
 
 -- the part has ended in this role, unless it ran out of memory
 abbrev pub HasEnded : Board → State → List ReadParts → Role → Result Part NoMemory → Type 0

@@ -7,7 +7,7 @@ ghost use Rattle.c5_definitions.specs.WriteNumbers.{row_count};
 ghost use Rattle.c5_board.specs.Boards.{names, write_count};
 ghost use Rattle.c5_replay.specs.Joins.{IsJoined, HaveReplied, HaveWorked, AreAllJoined};
 ghost use Rattle.c5_replay.specs.Parts.{IsPassWith, IsNextEnd, HaveEnded, HasEnded, all_roles};
-ghost use Rattle.c5_replay.specs.Parts.{session_roles, worker_roles};
+ghost use Rattle.c5_replay.specs.Parts.{HaveSessionsUpTo, session_roles, worker_roles};
 ghost use Rattle.c5_io.specs.declared.gate.Role.TheVariants as roles;
 ghost use Rattle.c5_replay.specs.declared.fault.ReplayFault.TheVariants as faults;
 
@@ -16,7 +16,7 @@ use crate::part::Part;
 use crate::shared::Shared;
 use c5_board::BoardPass;
 use c5_io::Role;
-use c5_rows::{MAX_SESSIONS, NoMemory, Replies, Reply};
+use c5_rows::{NoMemory, Replies, Reply};
 use c5_workers::{ScheduleEnd, Worker, schedule_all};
 use std::alloc::Global;
 use std::collections::VecDeque;
@@ -138,25 +138,26 @@ fn join_session(
     }
 }
 
-// Joins the passes of all sessions. The replies are by ascending session.
+// Joins the passes of so many sessions. The replies are by ascending session.
 fn join_sessions(
     shared: &Shared<'_>,
     mut pass: BoardPass,
     ends: &mut Ends,
     replies: &mut Replies,
+    sessions: u32,
 ) -> Result<BoardPass, NoMemory>
     requires pass { IsPassWith shared.now.board.now [] pass }
     requires ends { HaveEnded shared.now.board.now shared.now.start.now shared.now.reads.now
-        (session_roles ++ worker_roles shared.now.board.now.workers) ends.old.items }
+        (session_roles sessions ++ worker_roles shared.now.board.now.workers) ends.old.items }
     requires none { replies.old ≡ [] }
     ensures ends { OnOk result (HaveEnded shared.now.board.now shared.now.start.now
         shared.now.reads.now (worker_roles shared.now.board.now.workers) ends.new.items) }
     ensures pass { IfOk result (IsPassWith shared.now.board.now []) }
     ensures joined { IfOk result (IsJoined pass) }
     ensures replied { IfOk result (λ joined. HaveReplied joined shared.now.start.now
-        shared.now.reads.now max_sessions replies.new) }
+        shared.now.reads.now sessions replies.new) }
 {
-    for before in 0..MAX_SESSIONS {
+    for before in 0..sessions {
         pass = join_session(shared, pass, ends, replies, before + 1)?;
     }
     Ok(pass)
@@ -215,17 +216,20 @@ fn join_workers(
     Ok((pass, workers))
 }
 
-/// Joins the passes of all parts with the rest of the board's pass. `Rows` if and only if the log
-/// writes too many rows.
+/// Joins the passes of all parts with the rest of the board's pass; so many sessions have parts,
+/// and no read is of a later one. `Rows` if and only if the log writes too many rows.
 pub fn join_all(
     alloc: Global,
     shared: &Shared<'_>,
     rest: BoardPass,
     ends: Vec<Result<Part, NoMemory>>,
+    sessions: u32,
 ) -> Result<Joined, ReplayFault>
     requires rest { IsPassWith shared.now.board.now [] rest }
+    requires few_sessions { sessions ≤ max_sessions }
+    requires sessions { HaveSessionsUpTo sessions shared.now.reads.now }
     requires ends { HaveEnded shared.now.board.now shared.now.start.now shared.now.reads.now
-        (all_roles shared.now.board.now.workers) ends.items }
+        (all_roles sessions shared.now.board.now.workers) ends.items }
     ensures joined { IfOk result (λ joined. AreAllJoined shared.now.board.now shared.now.start.now
         shared.now.reads.now joined.pass joined.workers.items joined.replies) }
     ensures few { OnOk result (row_count (names shared.now.board.now) ≤ max_rows) }
@@ -235,7 +239,7 @@ pub fn join_all(
     let mut replies = Replies::new(alloc);
     let pass = join_scheduler(shared, rest, &mut ends)?;
     let pass = join_snapshot(shared, pass, &mut ends)?;
-    let pass = join_sessions(shared, pass, &mut ends, &mut replies)?;
+    let pass = join_sessions(shared, pass, &mut ends, &mut replies, sessions)?;
     let (pass, workers) = join_workers(alloc, shared, pass, &mut ends)?;
     Ok(Joined {
         pass,

@@ -1,10 +1,11 @@
 //! The replay of a log.
 
 ghost use Rattle.std.specs.Prelude.{◌≡◌, ◌≤◌, ◌<◌, length, Err, IfOk, OnOk};
-ghost use Rattle.c5_rows.specs.Sizes.{max_reads, max_rows, max_workers};
+ghost use Rattle.c5_rows.specs.Sizes.{max_reads, max_rows, max_sessions, max_workers};
 ghost use Rattle.c5_definitions.specs.WriteNumbers.{names_in};
 ghost use Rattle.c5_definitions.specs.WriteNumbers.{row_count};
 ghost use Rattle.c5_board.specs.Boards.{IsWorker};
+ghost use Rattle.c5_replay.specs.Parts.{HaveSessionsUpTo};
 ghost use Rattle.c5_replay.specs.Replays.{IsReplay, HasReplayed};
 ghost use Rattle.c5_replay.specs.declared.fault.ReplayFault.TheVariants as faults;
 
@@ -36,11 +37,23 @@ pub struct Replayed {
     pub pass: BoardPass,
 }
 
+// The greatest session that has a read, or 0.
+fn last_session(reads: &[ReadBlock]) -> u32
+    ensures few { result ≤ max_sessions }
+    ensures all { HaveSessionsUpTo result reads.now }
+{
+    let mut last = 0;
+    for read in reads {
+        last = last.max(read.session());
+    }
+    last
+}
+
 /// Replays a log from these rows with so many workers, 1 to 16, and answers read blocks meanwhile,
 /// each by the rows at a place that is visible then.
 ///
-/// The scheduler, the snapshotter, the workers and the sessions run in threads of their own if
-/// they can be made. Each passes the gate before each of its turns, which count from 1; a turn of a
+/// The scheduler, the snapshotter, the workers and the sessions up to the last that has a read run
+/// in threads of their own if they can be made. Each passes the gate before each of its turns, which count from 1; a turn of a
 /// session is one block. A worker or the snapshotter ends early if 1,000 turns in a row have
 /// brought nothing; what is left then is done once all have ended.
 ///
@@ -71,9 +84,10 @@ pub fn replay<G: Gate, R: Threads + Sync>(
         start,
         reads,
     };
-    let (rest, parts) = split_all(alloc, &board, pass, scheduler)?;
+    let sessions = last_session(reads);
+    let (rest, parts) = split_all(alloc, &board, pass, scheduler, sessions)?;
     let ends = play_all(rt, alloc, shared, gate, parts)?;
-    let mut joined = join_all(alloc, &shared, rest, ends)?;
+    let mut joined = join_all(alloc, &shared, rest, ends, sessions)?;
     finish_all(
         &shared,
         &mut joined.pass,

@@ -10,7 +10,7 @@ ghost use Rattle.c5_replay.specs.Parts.{session_roles};
 
 use crate::part::Part;
 use c5_board::{Board, BoardPass};
-use c5_rows::{MAX_SESSIONS, NoMemory};
+use c5_rows::NoMemory;
 use c5_workers::{Scheduler, Worker};
 use std::alloc::Global;
 
@@ -22,21 +22,22 @@ fn add(parts: &mut Vec<Part>, part: Part) -> Result<(), NoMemory>
     Ok(())
 }
 
-// Adds the parts of all sessions.
+// Adds the parts of so many sessions.
 fn add_sessions(
     alloc: Global,
     board: &Board<'_>,
     mut pass: BoardPass,
     parts: &mut Vec<Part>,
+    sessions: u32,
 ) -> Result<BoardPass, NoMemory>
     requires pass { pass.board ≡ board.now }
     ensures rest { IfOk result (λ rest. rest ≡ pass) }
     ensures parts { OnOk result ((start : State) → ArePlaying board.now start parts.old.items
         → ArePlaying board.now start parts.new.items) }
     ensures roles { OnOk result (map role_of parts.new.items
-        ≡ map role_of parts.old.items ++ session_roles) }
+        ≡ map role_of parts.old.items ++ session_roles sessions) }
 {
-    for before in 0..MAX_SESSIONS {
+    for before in 0..sessions {
         let (rest, own) = board.split_reader(pass);
         pass = rest;
         add(
@@ -84,13 +85,14 @@ fn add_workers(
     Ok(pass)
 }
 
-/// The parts of a replay on a new board: the scheduler, the snapshotter, the sessions and the
+/// The parts of a replay on a new board: the scheduler, the snapshotter, so many sessions and the
 /// workers; and what is left of its pass, which holds no role.
 pub fn split_all(
     alloc: Global,
     board: &Board<'_>,
     pass: BoardPass,
     scheduler: Scheduler,
+    sessions: u32,
 ) -> Result<(BoardPass, Vec<Part>), NoMemory>
     requires pass { pass ≡ first_pass board.now }
     requires scheduler { FitsNew scheduler board.now }
@@ -98,7 +100,7 @@ pub fn split_all(
     ensures parts { IfOk result
         (λ split. (start : State) → ArePlaying board.now start split.1.items) }
     ensures roles { IfOk result
-        (λ split. map role_of split.1.items ≡ all_roles board.now.workers) }
+        (λ split. map role_of split.1.items ≡ all_roles sessions board.now.workers) }
 {
     let mut parts = Vec::new(alloc);
     let (rest, own) = board.split_scheduler(pass);
@@ -111,7 +113,7 @@ pub fn split_all(
     )?;
     let (rest, own) = board.split_snapshot(rest);
     add(&mut parts, Part::Snapshot { pass: own })?;
-    let rest = add_sessions(alloc, board, rest, &mut parts)?;
+    let rest = add_sessions(alloc, board, rest, &mut parts, sessions)?;
     let rest = add_workers(alloc, board, rest, &mut parts)?;
     Ok((rest, parts))
 }

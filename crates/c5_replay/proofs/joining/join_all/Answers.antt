@@ -1,6 +1,5 @@
 use Rattle.std.proofs.Common.{◌≡◌, ◌≤◌, arith}
-use Rattle.c5_rows.specs.Sizes.{max_sessions}
-use Rattle.c5_replay.proofs.Sessions.{replied-later}
+use Rattle.c5_replay.proofs.Sessions.{replied-later, replied-all}
 use Rattle.c5_replay.proofs.joining.join_all.Goals as goal
 
 pub returns-clause-joined : goal.returns-clause-joined
@@ -18,6 +17,8 @@ returns-clause-joined c =
           (let w = a.scheduled in let x = b.joined.scheduled_more in
           let y = d.joined.scheduled_more in let z = e.joined.scheduled_more in omega arith);
       replied =
-          replied-later c.in_ok-pass-3.pass c.in_ok-pass-4.pass c.args.shared.now.start.now
-          c.args.shared.now.reads.now max_sessions c.join_sessions.new.replies d.replied e.joined;
+          replied-all c.in_ok-pass-4.pass c.args.shared.now.start.now c.args.shared.now.reads.now
+          c.args.sessions c.join_sessions.new.replies c.requires.few_sessions c.requires.sessions
+          (replied-later c.in_ok-pass-3.pass c.in_ok-pass-4.pass c.args.shared.now.start.now
+          c.args.shared.now.reads.now c.args.sessions c.join_sessions.new.replies d.replied e.joined);
     }

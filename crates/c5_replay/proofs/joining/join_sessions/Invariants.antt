@@ -1,6 +1,5 @@
 use Rattle.std.proofs.Common.{◌≡◌, ◌+◌, ◌-◌, ◌++◌, [], map}
 use Rattle.std.specs.List.{range_with_len}
-use Rattle.c5_rows.specs.Sizes.{max_sessions}
 use Rattle.c5_io.specs.declared.gate.Role.TheVariants as roles
 use Rattle.c5_replay.specs.Parts.{IsPassWith, HaveEnded, worker_roles}
 use Rattle.c5_replay.specs.Joins.{IsJoined, HaveReplied}
@@ -12,6 +11,6 @@ invariant-loop-before l = record {
   joined : IsJoined l.fn.pass l.pass;
   replied : HaveReplied l.pass l.shared.start.now l.shared.reads.now l.before l.replies;
   ends : HaveEnded l.shared.board.now l.shared.start.now l.shared.reads.now
-      (map roles.Session (range_with_len (l.before + 1) (max_sessions - l.before))
+      (map roles.Session (range_with_len (l.before + 1) (l.sessions - l.before))
       ++ worker_roles l.shared.board.now.workers) l.ends.items;
 }
