@@ -1,6 +1,6 @@
 /* Prints so many keys of table 0, one a line, that all begin at one group of a hash map of so many
- * rows, with one tag, so that each is compared with each. The map is the kit's IndexMap: FoldHasher,
- * groups of 16 lanes, a tag of 8 bits. */
+ * rows, with one tag, so that each is compared with each. The map is the kit's IndexMap:
+ * FoldHasher, groups of 16 lanes, a tag of 8 bits. */
 #include <stdint.h>
 #include <stdio.h>
 #include <stdlib.h>

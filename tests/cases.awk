@@ -3,20 +3,23 @@
 #
 #   # ..                  a comment; in hexadecimal also at the end of a line
 #   @input hex|text       how the inputs of the file are written
-#   @output hex|text      how the outputs after status 0 are written; after any other status they are text
+#   @output hex|text      how the outputs after status 0 are written; after any other status they
+#                         are text
 #   @let NAME HEX ..      NAME is these bytes in the lines in hexadecimal that follow
 #   case NAME             begins a case; its name says what it shows
 #   @words WORD ..        the words of the command line, if not the file's name alone
 #   @from PATH            standard input is this file
 #   @to PATH              standard output goes to this file, and is not compared
 #   @zeros N              the input is N bytes 00
-#   LINE                  text: a line of the input. \0NNN is the byte of these three octal digits, \t a tab,
-#                         \r a carriage return, \\ a backslash; after \c at its end the line has no line end
+#   LINE                  text: a line of the input. \0NNN is the byte of these three octal digits,
+#                         \t a tab, \r a carriage return, \\ a backslash; after \c at its end the
+#                         line has no line end
 #   *N LINE               text: N lines; ` / ` in LINE is a line end
 #   @times N .. @done     text: the lines between, N times
 #   HEX ..                hex: bytes; HEX*N is one byte N times
 #   @hex HEX ..           bytes in hexadecimal, in an input that is text
-#   => STATUS             what follows is the output; empty lines before the next case aren't part of it
+#   => STATUS             what follows is the output; empty lines before the next case aren't part
+#                         of it
 #   => STATUS size N      the output has N bytes
 #
 # A byte is printed as an octal escape of printf, and a line that is repeated as `part N LINES

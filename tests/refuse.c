@@ -1,12 +1,12 @@
-/* Makes calls of the C library fail in a program that is started with LD_PRELOAD of this file, as tests/hostile.py
-   does. Each variable is a number; without it, or with 0, nothing is changed.
+/* Makes calls of the C library fail in a program that is started with LD_PRELOAD of this file, as
+   tests/hostile.py does. Each variable is a number; without it, or with 0, nothing is changed.
 
      C5_ALLOC=N       the Nth allocation fails, counted from 1
      C5_ALLOC_FROM=N  the Nth allocation and all later ones fail
      C5_READ=N        the Nth read of standard input fails
      C5_WRITE=N       the Nth write to standard output fails
      C5_SHORT=N       a read or write of these moves at most N bytes
-     C5_REPORT=N        a byte is written to this file descriptor when a call is made to fail */
+     C5_REPORT=N      a byte is written to this file descriptor when a call is made to fail */
 #define _GNU_SOURCE
 #include <dlfcn.h>
 #include <errno.h>
@@ -63,8 +63,12 @@ static int is_refused(void) {
 void *malloc(size_t size) { return is_refused() ? NULL : __libc_malloc(size); }
 void *calloc(size_t count, size_t size) { return is_refused() ? NULL : __libc_calloc(count, size); }
 void *realloc(void *at, size_t size) { return is_refused() ? NULL : __libc_realloc(at, size); }
-void *memalign(size_t align, size_t size) { return is_refused() ? NULL : __libc_memalign(align, size); }
-void *aligned_alloc(size_t align, size_t size) { return is_refused() ? NULL : __libc_memalign(align, size); }
+void *memalign(size_t align, size_t size) {
+    return is_refused() ? NULL : __libc_memalign(align, size);
+}
+void *aligned_alloc(size_t align, size_t size) {
+    return is_refused() ? NULL : __libc_memalign(align, size);
+}
 
 int posix_memalign(void **to, size_t align, size_t size) {
     if (is_refused()) return ENOMEM;
@@ -81,7 +85,9 @@ static int fails(atomic_long *count, long at) {
     return 1;
 }
 
-static size_t shortened(size_t size) { return most > 0 && size > (size_t)most ? (size_t)most : size; }
+static size_t shortened(size_t size) {
+    return most > 0 && size > (size_t)most ? (size_t)most : size;
+}
 
 ssize_t read(int file, void *to, size_t size) {
     if (file != STDIN_FILENO) return real_read(file, to, size);

@@ -2,11 +2,12 @@
 # Tests the built program, and ends with a line `N passed, M failed`:
 #   - the cases of tests/*.cases, each file by the command that it is named after;
 #   - the tables of faults in docs/, from the documents themselves;
-#   - each command that a document shows with its output (a fenced block `console`), from the documents;
+#   - each command that a document shows with its output (a fenced block `console`), from the
+#     documents;
 #   - the page of `--help`: each example, each command, and the ranges of the options;
 #   - examples/: each script's log and rows;
-#   - if there is a python3: inputs made from a seed, compared with a second implementation (tests/compare*.py), and
-#     reads, writes and allocations that fail in turn (tests/hostile.py).
+#   - if there is a python3: inputs made from a seed, compared with a second implementation
+#     (tests/compare*.py), and reads, writes and allocations that fail in turn (tests/hostile.py).
 set -u
 LC_ALL=C
 export LC_ALL
