@@ -6,7 +6,7 @@
      C5_READ=N        the Nth read of standard input fails
      C5_WRITE=N       the Nth write to standard output fails
      C5_SHORT=N       a read or write of these moves at most N bytes
-     C5_REPORT=N        a byte is written to this file descriptor when a call is made to fail */
+     C5_REPORT=N      a byte is written to this file descriptor when a call is made to fail */
 #define _GNU_SOURCE
 #include <dlfcn.h>
 #include <errno.h>
@@ -66,7 +66,6 @@ void *realloc(void *at, size_t size) { return is_refused() ? NULL : __libc_reall
 void *memalign(size_t align, size_t size) {
     return is_refused() ? NULL : __libc_memalign(align, size);
 }
-
 void *aligned_alloc(size_t align, size_t size) {
     return is_refused() ? NULL : __libc_memalign(align, size);
 }
