@@ -3,9 +3,6 @@
 # columns `clause` of README.md and docs/PROOFS.md; and other names in backquotes, if they have an
 # underscore or a capital letter after their first one. Also if the numbers of lines in
 # docs/PROOFS.md and docs/HEADLINE.md are others than the files have.
-#
-# Names that documents cite and that are others': a call of the standard library, a setting of Linux.
-elsewhere='binary_search_by|sched_autogroup_enabled'
 set -u
 cd "$(dirname "$0")/.." || exit 1
 
