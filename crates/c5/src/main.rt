@@ -44,7 +44,12 @@ fn explain(rt: &HostRuntime, status: Status, words: &[String]) -> io::Result<()>
     }
     eprint!(rt; "c5: ")?;
     if status == Status::BadWords {
-        eprint!(rt; "bad words")?;
+        // A word alone that is refused is no command, unless it is an option.
+        let what = match words {
+            [word] if !word.starts_with('-') => "no such command",
+            _ => "bad words",
+        };
+        eprint!(rt; "{what}")?;
         for word in words {
             eprint!(rt; " {word:?}")?;
         }
