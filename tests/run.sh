@@ -5,6 +5,7 @@
 #   - each command that a document shows with its output (a fenced block `console`), from the
 #     documents;
 #   - the page of `--help`: each example, each command, and the ranges of the options;
+#   - what standard error says of refused words;
 #   - examples/: each script's log and rows;
 #   - if there is a python3: inputs made from a seed, compared with a second implementation
 #     (tests/compare*.py), and reads, writes and allocations that fail in turn (tests/hostile.py).
@@ -193,6 +194,22 @@ while read -r option least most default; do
     refuses_words apply "--$option" "$((least - 1))"
     refuses_words apply "--$option" "$((most + 1))"
 done <"$got/options"
+
+# What standard error says of refused words.
+says() {
+    line="$1"
+    shift
+    "$program" "$@" >"$got/output" 2>"$got/errors" </dev/null
+    if printf '%s\n' "$line" | cmp -s - "$got/errors"; then
+        pass
+    else
+        fail "c5 $*: standard error isn't: $line"
+    fi
+}
+
+says 'c5: no such command "frob"; try c5 --help' frob
+says 'c5: bad words "--frob"; try c5 --help' --frob
+says 'c5: bad words "primary" "--threads" "17"; try c5 --help' primary --threads 17
 
 for script in "$top"/examples/*.c5s; do
     file=examples/$(basename "$script")

@@ -36,23 +36,7 @@ fn advice(status: Status) -> &'static str
     }
 }
 
-// Writes why these words are refused, with each of them in quotes.
-fn explain_words(rt: &HostRuntime, words: &[String]) -> io::Result<()> {
-    if words.is_empty() {
-        return eprint!(rt; "no command; ");
-    }
-    // Each command alone is accepted.
-    if words.len() == 1 && !words[0].starts_with("-") {
-        return eprint!(rt; "no such command {:?}; ", words[0]);
-    }
-    eprint!(rt; "not a command with its options:")?;
-    for word in words {
-        eprint!(rt; " {word:?}")?;
-    }
-    eprint!(rt; "; ")
-}
-
-// Writes one line to standard error: what went wrong and what to do.
+// Writes one line to standard error: what went wrong, with bad words in quotes, and what to do.
 fn explain(rt: &HostRuntime, status: Status, words: &[String]) -> io::Result<()> {
     let advice = advice(status);
     if advice.is_empty() {
@@ -60,7 +44,16 @@ fn explain(rt: &HostRuntime, status: Status, words: &[String]) -> io::Result<()>
     }
     eprint!(rt; "c5: ")?;
     if status == Status::BadWords {
-        explain_words(rt, words)?;
+        // A word alone that is refused is no command, unless it is an option.
+        let what = match words {
+            [word] if !word.starts_with('-') => "no such command",
+            _ => "bad words",
+        };
+        eprint!(rt; "{what}")?;
+        for word in words {
+            eprint!(rt; " {word:?}")?;
+        }
+        eprint!(rt; "; ")?;
     }
     eprintln!(rt; "{advice}")
 }
