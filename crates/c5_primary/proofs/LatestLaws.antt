@@ -1,12 +1,12 @@
 -- The rows after one more transaction.
-use Rattle.std.proofs.Common.{◌≡◌, ◌<◌, ◌+◌, ◌∙◌, ℕ, zero, suc, Bool, true, false, cond, List, [], ◌∷◌}
+use Rattle.std.proofs.Common.{◌≡◌, ◌<◌, ◌∙◌, ℕ, zero, suc, Bool, true, false, cond, List, [], ◌∷◌}
 use Rattle.std.proofs.Common.{◌++◌, Option, Some, None, MatchOption, Less, Equal, Greater, length}
-use Rattle.std.proofs.Common.{get_or, drop, refl, ap, sym, subst, arith}
+use Rattle.std.proofs.Common.{get_or, refl, ap, sym, subst, arith}
 use Rattle.std.specs.FinMap.{get, get-insert, get-remove}
 use Rattle.std.specs.Ordering.{eq_by_cmp, is_eq, ordering_reverse}
+use Rattle.std.specs.BTreeMap.{is_at}
 use Rattle.std.specs.Cmp.{eq_by_cmp_equiv}
 use Rattle.std.specs.List.{slice_get}
-use Rattle.std.proofs.Math.Seq.{drop-cons}
 use Rattle.std.proofs.lemmas.Option.{slice_get_within}
 use Rattle.c5_rows.specs.declared.cells.Cell.{Cell}
 use Rattle.c5_rows.specs.declared.writes.RowName.{RowName}
@@ -18,8 +18,6 @@ use Rattle.c5_rows.specs.Order.{row_name_cmp, row_name_cmp_total}
 use Rattle.c5_rows.specs.State.{State, after_change, after_writes, after_txns}
 use Rattle.c5_rows.specs.Writes.{IsBelowFirst, IsAscending, change_of}
 use Rattle.c5_rows.proofs.WriteLemmas.{first_below, change_of-gap}
-use Rattle.c5_definitions.specs.WriteNumbers.{is_same_name}
-use Rattle.c5_primary.specs.declared.hashed_name.HashedName.{HashedName}
 use Rattle.c5_primary.specs.Latest.{row_kept, place_at, noted, IsLeftAt, LeadsToRows}
 
 -- ---- a row after writes
@@ -78,7 +76,7 @@ noted-change : (writes : List Write) (place : ℕ) (q : RowName) (old : Option �
     → noted writes place q old ≡ place_or (change_of q writes) place old
 noted-change [] place q old = refl
 noted-change (write ∷ writes) place q old =
-    noted-change writes place q (cond (is_same_name write.name q) (Some place) old)
+    noted-change writes place q (cond (is_at (row_name_cmp write.name) q) (Some place) old)
     ∙ ap (λ b. place_or (change_of q writes) place (cond b (Some place) old))
     ((eq_by_cmp_equiv row_name_cmp_total).symm write.name q)
     ∙ by (eq_by_cmp row_name_cmp q write.name) (change_of q writes)
@@ -89,19 +87,6 @@ noted-change (write ∷ writes) place q old =
     by true None = refl
     by true (Some change) = refl
     by false others = refl
-
--- one more write is noted
-pub noted-next : (writes : List Write) (k place : ℕ) (write : Write) (name : RowName)
-    (old new : Option ℕ) → k < length writes → write ≡ get_or writes k write
-    → new ≡ cond (is_same_name write.name name) (Some place) old
-    → noted (drop (k + 1) writes) place name new ≡ noted (drop k writes) place name old
-noted-next writes k place write name old new within is e =
-    let next : k + 1 ≡ suc k = omega arith in
-    let now = cond (is_same_name write.name name) (Some place) old in
-    ap (noted (drop (k + 1) writes) place name) e ∙ ap
-    (λ (m : ℕ). noted (drop m writes) place name now) next ∙ sym
-    (ap (λ (ws : List Write). noted ws place name old)
-    (drop-cons writes k write within ∙ ap (λ (w : Write). w ∷ drop (suc k) writes) (sym is)))
 
 -- ---- one more transaction
 
@@ -139,7 +124,7 @@ kept start txns txn q (Some place) left same = by (slice_get txns place) refl le
     by (Some t) at h = subst (Leaves q (get (after_txns (txns ++ txn ∷ []) start) q))
         (sym (still_there txns txn t place at)) (same ∙ h)
 
-pub leads-further : (start : State) (txns : List Txn) (txn : Txn) (old new : List (HashedName × ℕ))
+pub leads-further : (start : State) (txns : List Txn) (txn : Txn) (old new : List (RowName × ℕ))
     → IsAscending txn.writes → LeadsToRows start txns old
     → ((q : RowName) → place_at new q ≡ noted txn.writes (length txns) q (place_at old q))
     → LeadsToRows start (txns ++ txn ∷ []) new
@@ -161,7 +146,7 @@ leads-further start txns txn old new up leads is q =
         subst (Leaves q (get (after_txns (txns ++ txn ∷ []) start) q)) (sym (at_end txns txn))
         (after ∙ ap (λ c. left_or c (get (after_txns txns start) q)) e ∙ sym (ap row_kept e))
 
-pub leads-first : (start : State) (txns : List Txn) (places : List (HashedName × ℕ)) → txns ≡ []
+pub leads-first : (start : State) (txns : List Txn) (places : List (RowName × ℕ)) → txns ≡ []
     → places ≡ [] → LeadsToRows start txns places
 leads-first start txns places none nowhere = rw (none, nowhere) (λ q. refl)
 

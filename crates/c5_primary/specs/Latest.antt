@@ -2,6 +2,7 @@
 use Rattle.std.specs.Prelude.{◌≡◌, ℕ, List, [], ◌∷◌, Option, Some, None, MatchOption, cond}
 use Rattle.std.specs.FinMap.{get}
 use Rattle.std.specs.Map.{lookup}
+use Rattle.std.specs.BTreeMap.{is_at}
 use Rattle.std.specs.List.{slice_get}
 use Rattle.c5_rows.specs.declared.cells.Cell.{Cell}
 use Rattle.c5_rows.specs.declared.writes.RowName.{RowName}
@@ -9,10 +10,9 @@ use Rattle.c5_rows.specs.declared.writes.Change.{Change}
 use Rattle.c5_rows.specs.declared.writes.Change.TheVariants.{Put, Gone}
 use Rattle.c5_rows.specs.declared.writes.Write.{Write}
 use Rattle.c5_rows.specs.declared.writes.Txn.{Txn}
+use Rattle.c5_rows.specs.Order.{row_name_cmp}
 use Rattle.c5_rows.specs.State.{State, after_txns}
 use Rattle.c5_rows.specs.Writes.{change_of}
-use Rattle.c5_definitions.specs.WriteNumbers.{is_same_name}
-use Rattle.c5_primary.specs.declared.hashed_name.HashedName.{HashedName}
 
 -- the row that a change leaves
 abbrev pub row_kept : Option Change → Option (List Cell)
@@ -21,14 +21,14 @@ row_kept (Some (Put row)) = Some row
 row_kept (Some Gone) = None
 
 -- the place that is noted for a row
-abbrev pub place_at : List (HashedName × ℕ) → RowName → Option ℕ
-place_at places name = lookup (λ (n : HashedName). is_same_name name n.0) places
+abbrev pub place_at : List (RowName × ℕ) → RowName → Option ℕ
+place_at places name = lookup (is_at (row_name_cmp name)) places
 
 -- what is noted for a row after these writes, made at a place
 abbrev pub noted : List Write → ℕ → RowName → Option ℕ → Option ℕ
 noted [] place name old = old
 noted (write ∷ writes) place name old =
-    noted writes place name (cond (is_same_name write.name name) (Some place) old)
+    noted writes place name (cond (is_at (row_name_cmp write.name) name) (Some place) old)
 
 -- the row after the transactions is what the one at this place left; with no place, the start's
 abbrev pub IsLeftAt : State → List Txn → RowName → Option ℕ → Type 0
@@ -38,5 +38,5 @@ IsLeftAt start txns name (Some place) =
     (λ txn. get (after_txns txns start) name ≡ row_kept (change_of name txn.writes))
 
 -- the places lead to every row after the transactions
-abbrev pub LeadsToRows : State → List Txn → List (HashedName × ℕ) → Type 0
+abbrev pub LeadsToRows : State → List Txn → List (RowName × ℕ) → Type 0
 LeadsToRows start txns places = (name : RowName) → IsLeftAt start txns name (place_at places name)

@@ -1,4 +1,3 @@
-pub mod HashedNames
 pub mod InOrder
 pub mod Latest
 pub mod Serial

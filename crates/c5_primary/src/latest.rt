@@ -3,18 +3,16 @@
 ghost use Rattle.std.specs.Prelude.{◌≡◌, OnOk, length};
 ghost use Rattle.std.specs.Option.{option_copied};
 ghost use Rattle.std.specs.FinMap.{get};
+ghost use Rattle.std.specs.BTreeMap.{IsOrdered};
 ghost use Rattle.c5_rows.specs.declared.writes.RowName.{RowName as Name};
+ghost use Rattle.c5_rows.specs.Order.{row_name_cmp};
 ghost use Rattle.c5_rows.specs.State.{after_txns};
 ghost use Rattle.c5_primary.specs.Latest.{row_kept, noted, place_at, LeadsToRows};
 
-use crate::hashed_name::HashedName;
 use c5_eval::LookUpRows;
 use c5_rows::{Change, NoMemory, Row, RowName, Rows, Txn, Write};
-use indexmap::IndexMap;
+use std::collections::BTreeMap;
 use std::marker::Model;
-
-/// The place of the last transaction that wrote each row.
-pub type Places = IndexMap<HashedName, u32>;
 
 // The row that a change leaves.
 fn row_kept<'a>(change: Option<&'a Change>) -> Option<&'a Row>
@@ -32,7 +30,7 @@ fn row_kept<'a>(change: Option<&'a Change>) -> Option<&'a Row>
 pub struct LatestRows<'a> {
     start: &'a Rows,
     txns: &'a [Txn],
-    places: &'a Places,
+    places: &'a BTreeMap<RowName, u32>,
 }
 
 impl<'a> Model for LatestRows<'a> {
@@ -58,13 +56,13 @@ impl<'a> Model for LatestRows<'a> {
 fn row_after<'a>(
     start: &'a Rows,
     txns: &'a [Txn],
-    places: &Places,
+    places: &BTreeMap<RowName, u32>,
     name: &RowName,
 ) -> Option<&'a Row>
     requires { LeadsToRows start.now txns.now places.now.entries }
     ensures { option_copied result ≡ get (after_txns txns.now start.now) name.now }
 {
-    match places.get(&HashedName(*name)) {
+    match places.get(name) {
         Some(place) => row_kept(txns[*place as usize].writes.find(name)),
         None => start.get(name),
     }
@@ -73,7 +71,7 @@ fn row_after<'a>(
 impl<'a> LatestRows<'a> {
     /// The rows after these transactions. A row that has a place was last written by the
     /// transaction there.
-    pub fn new(start: &'a Rows, txns: &'a [Txn], places: &'a Places) -> Self
+    pub fn new(start: &'a Rows, txns: &'a [Txn], places: &'a BTreeMap<RowName, u32>) -> Self
         requires { LeadsToRows start.now txns.now places.now.entries }
         ensures { result ≡ after_txns txns.now start.now }
     {
@@ -94,12 +92,18 @@ impl LookUpRows for LatestRows<'_> {
 }
 
 /// Notes that the transaction at this place has these writes.
-pub fn note_writes(places: &mut Places, writes: &[Write], place: u32) -> Result<(), NoMemory>
-    ensures { OnOk result ((name : Name) → place_at places.new.entries name
+pub fn note_writes(
+    places: &mut BTreeMap<RowName, u32>,
+    writes: &[Write],
+    place: u32,
+) -> Result<(), NoMemory>
+    requires { IsOrdered row_name_cmp places.old }
+    ensures ordered { IsOrdered row_name_cmp places.new }
+    ensures noted { OnOk result ((name : Name) → place_at places.new.entries name
         ≡ noted writes.now place name (place_at places.old.entries name)) }
 {
     for write in writes {
-        places.insert(HashedName(write.name), place)?;
+        places.insert(write.name, place)?;
     }
     Ok(())
 }

@@ -2,7 +2,6 @@
 #![tactic(auto)]
 
 mod finishing;
-mod hashed_name;
 mod held;
 mod joining;
 mod latest;

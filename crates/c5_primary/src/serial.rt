@@ -12,8 +12,8 @@ use crate::latest::{LatestRows, note_writes};
 use c5_eval::{LookUpRows, evaluate_rows};
 use c5_rows::{NoMemory, Rows, Txn};
 use c5_script::{Body, Script};
-use indexmap::IndexMap;
 use std::alloc::Global;
+use std::collections::BTreeMap;
 
 // The transaction of the body of this number on these rows.
 #[inline(never)]
@@ -46,7 +46,7 @@ fn txns_in_order(alloc: Global, bodies: &[Body], start: &Rows) -> Result<Vec<Txn
     requires { length bodies.now ≤ max_transactions }
     ensures { IfOk result (λ txns. txns.items ≡ in_order 0 bodies.now start.now) }
 {
-    let mut places = IndexMap::new(alloc);
+    let mut places = BTreeMap::new(alloc);
     let mut txns = Vec::with_capacity(alloc, bodies.len())?;
     for (number, body) in bodies.iter().enumerate() {
         let rows = LatestRows::new(start, &txns, &places);

@@ -17,6 +17,7 @@ loop-number-init c =
     let none = c.in_ok-txns.ensures.items in
     record {
       count = ap length none;
+      ordered = c.new-places.ensures.ordered;
       leads = leads-first c.args.start.now c.in_ok-txns.txns.items c.new-places.result.entries none
           c.new-places.ensures.empty;
       all = all-to-come c.args.start.now c.args.bodies.now c.in_ok-txns.txns.items none;
@@ -33,7 +34,7 @@ loop-number-preserved c =
     let pushed : c.keep.new.txns.items ≡ txns ++ txn ∷ [] = c.in_ok-keep.ensures in
     let seen : (name : RowName) → place_at c.note_writes.new.places.entries name
     ≡ noted txn.writes (length txns) name (place_at places name) =
-    λ name. c.in_ok-note_writes.ensures name
+    λ name. c.in_ok-note_writes.ensures.noted name
     ∙ ap (λ (ws : List Write). noted ws n name (place_at places name)) c.as_slice.ensures.value
     ∙ ap (λ (m : ℕ). noted txn.writes m name (place_at places name)) (sym so_far.count) in
     let made : txn ≡ body_txn n (n + 1) (get_or bodies n c.index-bodies-number.result)
@@ -46,6 +47,7 @@ loop-number-preserved c =
     c.index-bodies-number.is in
     record {
       count = ap length pushed ∙ length-append txns (txn ∷ []) ∙ ap (λ (m : ℕ). m + 1) so_far.count;
+      ordered = c.in_ok-note_writes.ensures.ordered;
       leads = subst
           (λ (ts : List Txn). LeadsToRows c.args.start.now ts c.note_writes.new.places.entries)
           (sym pushed)
