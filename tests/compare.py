@@ -25,7 +25,7 @@ LIMIT_LINES = ["transactions", "writes", "rows"]
 ANSWERS = ([("apply", "ok"), ("primary", "ok"), ("apply", "too long"), ("primary", "too long")]
            + [("apply", f"bad log {kind}") for kind in LOG_KINDS]
            + [("primary", f"bad script {kind}") for kind in SCRIPT_KINDS]
-           + [("primary", f"limit {line}") for line in LIMIT_LINES]
+           + [(command, f"limit {line}") for command in ("apply", "primary") for line in LIMIT_LINES]
            + [(command, f"{what} fails") for command in ("apply", "primary", "backup", "clone")
               for what in ("read", "write")]
            + [("words", "bad words"), ("clone", "ok"), ("clone", "too long"), ("backup", "ok"),
@@ -39,7 +39,8 @@ ANSWERS = ([("apply", "ok"), ("primary", "ok"), ("apply", "too long"), ("primary
 # Pairs of tests that one item or line can fail both, the one that comes first first.
 FRAME_PAIRS = [("length", "cut"), ("length", "kind"), ("table", "key"), ("table", "cell"),
                ("key", "cell"), ("key", "order"),
-               ("cell", "order"), ("stamp", "count"), ("end", "after")]
+               ("cell", "order"), ("stamp", "count"), ("end", "after"), ("length", "size")]
+FRAME_PAIRS += [("size", later) for later in ("stamp", "count", "end", "after")]
 FRAME_PAIRS += [("cut", later) for later in ("magic", "header", "kind", "size", "table", "key",
                                              "cell", "order", "stamp", "count", "end")]
 LINE_PAIRS = [("byte", "quote"), ("byte", "word"), ("byte", "limit"), ("byte", "count"),
@@ -50,7 +51,8 @@ LINE_PAIRS = [("byte", "quote"), ("byte", "word"), ("byte", "limit"), ("byte", "
               ("count", "K"), ("count", "N"), ("count", "SESSION"),
               ("NAME", "TYPE"), ("T", "K"), ("T", "N"), ("K", "CELLS"), ("K", "CELL"),
               ("CELLS", "CELL"), ("K", "COL"),
-              ("K", "N"), ("COL", "REL"), ("COL", "N"), ("COL", "K"), ("REL", "N")]
+              ("K", "N"), ("COL", "REL"), ("COL", "N"), ("COL", "K"), ("REL", "N"),
+              ("count", "COL"), ("count", "REL"), ("T", "REL"), ("K", "REL")]
 PAIRS = [("apply", pair) for pair in FRAME_PAIRS] + [("primary", pair) for pair in LINE_PAIRS]
 
 
